@@ -1,0 +1,1 @@
+// What the library promises, stated and proved. There is no code.

@@ -1,0 +1,1 @@
+// Accept, first, next and check over plain slices.

@@ -1,0 +1,4 @@
+pub mod Grammar
+pub mod Walk
+pub mod Refusals
+pub mod Outcome

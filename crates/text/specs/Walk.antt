@@ -1,0 +1,63 @@
+-- The walk over tokens that finds the tree, or the first of the faults 12 to 15 with its place.
+use mathlib.Core.Option.{Option, none, some}
+use mathlib.Core.List.{List, [], _∷_}
+use Prim.Native.Nat.{ℕ, zero, suc}
+use lib.ListN.{length}
+use Rattle.language.specs.Tree.{Tree, empty, cat, alt, star}
+use Rattle.rules.specs.Limits.{openLimit}
+use Rattle.rules.specs.Numbers.{missingOperand, nothingOpen, leftOpen, tooDeep}
+use Rattle.lexer.specs.Tokens.{aLiteral, aBar, aStar, anOpen, aClose, aFault, Placed, placed, tokensFrom}
+use Rattle.text.specs.Grammar.{copies}
+
+-- a refusal of a text: its number and its place
+pub record Fault : Type 0 where
+  pub number : ℕ
+  pub place : ℕ
+
+-- what was read since the innermost open parenthesis, after the alternation a before the last bar, if there is one:
+-- nothing yet, or the unit u after the sequence s, if there is one
+pub data Frame : Type 0 where
+  begin : Option (Tree ℕ) → Frame
+  going : Option (Tree ℕ) → Option (Tree ℕ) → Tree ℕ → Frame
+
+abbrev pub after : (Tree ℕ → Tree ℕ → Tree ℕ) → Option (Tree ℕ) → Tree ℕ → Tree ℕ
+after f none t = t
+after f (some r) t = f r t
+
+-- the tree of all that was read in a frame
+abbrev pub value : Option (Tree ℕ) → Option (Tree ℕ) → Tree ℕ → Tree ℕ
+value a s u = after alt a (after cat s u)
+
+-- the frame with one unit more
+abbrev pub put : Tree ℕ → Frame → Frame
+put t (begin a) = going a none t
+put t (going a s u) = going a (some (after cat s u)) t
+
+pub data Answer : Type 0 where
+  tree : Tree ℕ → Answer
+  fault : Fault → Answer
+
+abbrev pub faultAt : ℕ → ℕ → Answer
+faultAt k i = fault (record { number = k; place = i })
+
+-- e: the text's length; d: how many more parentheses may be opened; the frame being read, and those of the open parentheses
+abbrev pub run : ℕ → ℕ → List Placed → Frame → List Frame → Answer
+run e d [] (begin a) [] = faultAt missingOperand e
+run e d [] (going a s u) [] = tree (value a s u)
+run e d [] f (g ∷ gs) = faultAt leftOpen e
+run e d (placed i (aLiteral b x y) ∷ ps) f gs = run e d ps (put (copies b x y) f) gs
+run e d (placed i aStar ∷ ps) (begin a) gs = faultAt missingOperand i
+run e d (placed i aStar ∷ ps) (going a s u) gs = run e d ps (going a s (star u)) gs
+run e d (placed i aBar ∷ ps) (begin a) gs = faultAt missingOperand i
+run e d (placed i aBar ∷ ps) (going a s u) gs = run e d ps (begin (some (value a s u))) gs
+run e zero (placed i anOpen ∷ ps) f gs = faultAt tooDeep i
+run e (suc d) (placed i anOpen ∷ ps) f gs = run e d ps (begin none) (f ∷ gs)
+run e d (placed i aClose ∷ ps) f [] = faultAt nothingOpen i
+run e d (placed i aClose ∷ ps) (begin none) (g ∷ gs) = run e (suc d) ps (put empty g) gs
+run e d (placed i aClose ∷ ps) (begin (some r)) (g ∷ gs) = faultAt missingOperand i
+run e d (placed i aClose ∷ ps) (going a s u) (g ∷ gs) = run e (suc d) ps (put (value a s u) g) gs
+run e d (placed i (aFault k) ∷ ps) f gs = faultAt k i
+
+-- the walk over a whole text
+abbrev pub parse : List ℕ → Answer
+parse text = run (length text) openLimit (tokensFrom text 0) (begin none) []
