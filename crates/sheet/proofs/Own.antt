@@ -70,7 +70,7 @@ pub own-stands : (t : Tree ℕ) → standsFor (sheetOf t) ≡ some (patternOf t)
 own-stands t = rw (own-nodes t) (ap (λ (o : Option (List (Tree ℕ))). withTree (sheetOf t) (only o)) (own-built t))
 
 -- ITS CONDITIONS
-any-append : (f : ℕ → Bool) (xs ys : List ℕ) → anyOf f xs ≡ false → anyOf f ys ≡ false → anyOf f (xs ++ ys) ≡ false
+pub any-append : (f : ℕ → Bool) (xs ys : List ℕ) → anyOf f xs ≡ false → anyOf f ys ≡ false → anyOf f (xs ++ ys) ≡ false
 any-append f [] ys a b = b
 any-append f (x ∷ xs) ys a b = go (f x) (λ e. any-append f xs ys e b) a
   where
