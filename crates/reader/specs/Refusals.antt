@@ -9,19 +9,24 @@ use Rattle.rules.specs.Numbers.{longName, shortMapping, shortWork}
 use Rattle.rules.specs.Refusal.{because}
 use Rattle.sheet.specs.Refusals.{sheetGrounds}
 
--- the calls that are lent a mapping: first, next and check
-abbrev pub mappingGrounds : List ℕ → List ℕ → List ℕ → List ℕ → List (Option ℕ)
-mappingGrounds sheet name mapping work =
-    sheetGrounds sheet
-    ++ because (ltb nameLimit (length name)) longName
+-- 30, 31 and 32
+abbrev pub nameGrounds : List ℕ → List ℕ → List ℕ → List (Option ℕ)
+nameGrounds name mapping work =
+    because (ltb nameLimit (length name)) longName
     ∷ because (ltb (length mapping) (entrySize * length name)) shortMapping
     ∷ because (ltb (length work) (areaFor name)) shortWork
     ∷ []
 
+-- the calls that are lent a mapping: first, next and check
+abbrev pub mappingGrounds : List ℕ → List ℕ → List ℕ → List ℕ → List (Option ℕ)
+mappingGrounds sheet name mapping work = sheetGrounds sheet ++ nameGrounds name mapping work
+
 -- "The acceptance call has no mapping buffer, so no 31."
-abbrev pub acceptGrounds : List ℕ → List ℕ → List ℕ → List (Option ℕ)
-acceptGrounds sheet name work =
-    sheetGrounds sheet
-    ++ because (ltb nameLimit (length name)) longName
+abbrev pub bareGrounds : List ℕ → List ℕ → List (Option ℕ)
+bareGrounds name work =
+    because (ltb nameLimit (length name)) longName
     ∷ because (ltb (length work) (areaFor name)) shortWork
     ∷ []
+
+abbrev pub acceptGrounds : List ℕ → List ℕ → List ℕ → List (Option ℕ)
+acceptGrounds sheet name work = sheetGrounds sheet ++ bareGrounds name work

@@ -1,0 +1,3 @@
+pub mod Parsing
+pub mod Made
+pub mod Outcome
