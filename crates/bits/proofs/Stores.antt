@@ -205,3 +205,18 @@ start-dropped xs k h p x =
     rw (e, d, eq-eqb k k refl, bit-cut, word-at xs k 0 x (omega arith) d) (ap (λ (t : Bool). has xs k x && not t) (same-member x 0 d)))
     (λ (d : ¬ (x / wordBits ≡ 0)). rw (ne-eqb (x / wordBits) 0 d, and-false, ne-eqb x 0 (λ z. omega arith), and-false, and-true) refl))
     (λ (e : ¬ (p ≡ k)). rw (ne-eqb p k e, and-true) refl))
+
+-- a set with nothing in it gets one member
+pub singled : (xs₀ xs : List ℕ) (k q : ℕ) → q < setBits → setWords * k + q / wordBits < length xs
+    → ((p x : ℕ) → has xs p x ≡ cond (eqb p k) false (has xs₀ p x)) → (p x : ℕ)
+    → has (set xs (setWords * k + q / wordBits) (1 * 2 ^ (q % wordBits) % 2 ^ wordBits)) p x ≡ cond (eqb p k) (eqb x q) (has xs₀ p x)
+singled xs₀ xs k q l h g p x =
+    rw (one-shifted (q % wordBits) (omega arith))
+    (stored xs k (q / wordBits) _ (omega arith) h p x ∙
+    by-cases (ℕ-discrete (x / wordBits) (q / wordBits))
+    (λ (d : x / wordBits ≡ q / wordBits). rw (eq-eqb (x / wordBits) (q / wordBits) d, and-true, bit-pow, same-member x q d, g p x) (inner (eqb p k)))
+    (λ (d : ¬ (x / wordBits ≡ q / wordBits)). rw (ne-eqb (x / wordBits) (q / wordBits) d, and-false, ne-eqb x q (λ z. d (ap (λ (n : ℕ). n / wordBits) z))) (g p x)))
+  where
+    inner : (t : Bool) → cond t (eqb x q) (cond t false (has xs₀ p x)) ≡ cond t (eqb x q) (has xs₀ p x)
+    inner true = refl
+    inner false = refl

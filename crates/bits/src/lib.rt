@@ -48,6 +48,16 @@ pub fn clear(sets: &mut [u64], k: usize)
     }
 }
 
+// Makes q the only member of set k.
+pub fn single(sets: &mut [u64], k: usize, q: usize)
+    requires { ⌜ (setWords * (k + 1) ≤ length (now sets)) × (q < setBits) ⌝ }
+    ensures { λ _. ⌜ ((p x : ℕ) → has (now (sets .exit)) p x ≡ cond (eqb p k) (eqb x q) (has (now (sets .entry)) p x)) ⌝ }
+{
+    clear(sets, k);
+    let at = SET_WORDS * k + q / WORD_BITS;
+    sets[at] = 1 << (q % WORD_BITS);
+}
+
 // Makes set k of `to` what set j of `from` is.
 pub fn copy_set(to: &mut [u64], k: usize, from: &[u64], j: usize)
     requires { ⌜ (setWords * (k + 1) ≤ length (now to)) × (setWords * (j + 1) ≤ length (now from)) ⌝ }
