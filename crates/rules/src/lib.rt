@@ -6,3 +6,7 @@ pub const WAITING_LIMIT: usize = 128;
 pub const LOWEST_BYTE: u8 = 0x20;
 
 pub const HIGHEST_BYTE: u8 = 0x7e;
+
+pub const NAME_LIMIT: usize = 255;
+
+pub const ROW_SIZE: usize = 64;
