@@ -1,3 +1,4 @@
 pub mod Parsing
 pub mod Made
 pub mod Outcome
+pub mod Numbers
