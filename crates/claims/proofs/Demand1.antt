@@ -101,15 +101,15 @@ demand-1 =
     record {
       sheet = text-call;
       accept = λ sheet name work.
-        name-call (acceptGrounds sheet name work) [] name work (AcceptWent sheet name work) (accept-answers sheet name [] work)
-        (record { one = accept-ends sheet name [] work; same = accept-settled sheet name [] work });
+          name-call (acceptGrounds sheet name work) [] name work (AcceptWent sheet name work) (accept-answers sheet name [] work)
+          (record { one = accept-ends sheet name [] work; same = accept-settled sheet name [] work });
       first = λ sheet name mapping work.
-        name-call (mappingGrounds sheet name mapping work) (wiped mapping) name work (FirstWent sheet name mapping work) (first-answers sheet name mapping work)
-        (record { one = first-ends sheet name mapping work; same = first-settled sheet name mapping work });
+          name-call (mappingGrounds sheet name mapping work) (wiped mapping) name work (FirstWent sheet name mapping work) (first-answers sheet name mapping work)
+          (record { one = first-ends sheet name mapping work; same = first-settled sheet name mapping work });
       next = λ sheet name mapping work.
-        name-call (mappingGrounds sheet name mapping work) (wiped mapping) name work (NextWent sheet name mapping work) (next-answers sheet name mapping work)
-        (record { one = next-ends sheet name mapping work; same = next-settled sheet name mapping work });
+          name-call (mappingGrounds sheet name mapping work) (wiped mapping) name work (NextWent sheet name mapping work) (next-answers sheet name mapping work)
+          (record { one = next-ends sheet name mapping work; same = next-settled sheet name mapping work });
       check = λ sheet name mapping work.
-        name-call (mappingGrounds sheet name mapping work) mapping name work (CheckWent sheet name mapping work) (check-answers sheet name mapping work)
-        (record { one = check-ends sheet name mapping work; same = check-settled sheet name mapping work });
+          name-call (mappingGrounds sheet name mapping work) mapping name work (CheckWent sheet name mapping work) (check-answers sheet name mapping work)
+          (record { one = check-ends sheet name mapping work; same = check-settled sheet name mapping work });
     }
