@@ -16,7 +16,6 @@ use Rattle.language.proofs.Decides.{and-left, and-right}
 use Rattle.language.proofs.Search.{Next, moved, stuck}
 use Rattle.language.proofs.Computed.{first-right, first-none, next-right}
 use Rattle.sheet.specs.Refusals.{sheetRefusal}
-use Rattle.sheet.specs.Stands.{standsFor}
 use Rattle.sheet.specs.Make.{postorder, sheetOf, patternOf}
 use Rattle.sheet.proofs.Own.{own-stands}
 use Rattle.sheet.proofs.Accepted.{standing}

@@ -16,7 +16,7 @@ use Rattle.lexer.specs.Tokens.{tokensFrom}
 use Rattle.sheet.specs.Make.{sheetOf}
 use Rattle.text.specs.Walk.{Fault}
 use Rattle.text.specs.Refusals.{at, textRefusal}
-use Rattle.text.specs.Outcome.{SheetEnd, TreeOfText, SheetWent, made, short, SheetCall}
+use Rattle.text.specs.Outcome.{SheetEnd, TreeOfText, made, short, SheetCall}
 use Rattle.text.proofs.Parsing.{unambiguous}
 use Rattle.text.proofs.Numbers.{text-number}
 use Rattle.text.proofs.Outcome.{sheet-settled, sheet-ends}

@@ -9,7 +9,7 @@ use Rattle.rules.proofs.Refusal.{some-eq, no-some}
 use Rattle.language.specs.Reading.{Pattern}
 use Rattle.sheet.specs.Stands.{standsFor}
 use Rattle.sheet.proofs.Accepted.{accepted-meant}
-use Rattle.reader.specs.Outcome.{End, AcceptWent, accepted, notIn, AcceptCall, FirstWent, found, absent, FirstCall}
+use Rattle.reader.specs.Outcome.{End, AcceptWent, accepted, notIn, FirstWent, found, absent}
 use Rattle.claims.specs.Demand2.{Accepts, Finds, Demand2}
 
 -- where nothing is refused, a call went as its search says

@@ -1,27 +1,26 @@
 -- Demand 3 holds.
 use mathlib.Core.Path.{_≡_, refl, ap, sym, _∙_}
 use mathlib.Core.Bool.{Bool}
-use mathlib.Core.Option.{Option, none, some}
-use mathlib.Core.List.{List, [], _∷_, _++_}
-use Prim.Native.Nat.{ℕ, suc, _+_, _*_, _-_, _≤_}
+use mathlib.Core.Option.{none, some}
+use mathlib.Core.List.{List, [], _∷_}
+use Prim.Native.Nat.{ℕ, suc, _*_, _-_, _≤_}
 use native.Mathlib.Omega.{arith}
-use lib.Dec.{ltb}
-use lib.ListN.{length, take, replicate}
+use lib.ListN.{length, replicate}
 use lib.Seq.{take-at}
 use borrow.Author.Tests.{le-ltb}
-use Rattle.rules.specs.Limits.{nameLimit, entrySize, areaFor, stored, entries, filled}
-use Rattle.rules.specs.Refusal.{firstOf, Call, refused, answered}
-use Rattle.rules.proofs.Refusal.{some-eq, no-some, later-part}
+use Rattle.rules.specs.Limits.{nameLimit, entrySize, areaFor, stored, filled}
+use Rattle.rules.specs.Refusal.{firstOf}
+use Rattle.rules.proofs.Refusal.{some-eq, later-part}
 use Rattle.language.specs.Reading.{Pattern, Spells, Reading}
-use Rattle.language.specs.Order.{Above, FirstReading, NextReading, NoReading, NoMore}
-use Rattle.language.specs.Listing.{Onward, Listing, Whole}
+use Rattle.language.specs.Order.{FirstReading, NextReading, NoReading, NoMore}
+use Rattle.language.specs.Listing.{Onward, Listing}
 use Rattle.language.proofs.Order.{least-unique}
 use Rattle.language.proofs.Whole.{whole-listing, all-readings}
 use Rattle.sheet.specs.Refusals.{sheetGrounds, sheetRefusal}
 use Rattle.sheet.specs.Stands.{standsFor}
 use Rattle.sheet.proofs.Accepted.{standing}
 use Rattle.reader.specs.Refusals.{nameGrounds, mappingGrounds}
-use Rattle.reader.specs.Outcome.{End, answeredWith, given, FirstWent, found, absent, FirstCall, NextWent, foundNext, noMore, noReading, NextCall}
+use Rattle.reader.specs.Outcome.{End, answeredWith, given, FirstWent, found, absent, NextWent, foundNext, noMore, noReading}
 use Rattle.claims.specs.Demand3.{Enough, Gives, GoesOn, Asking, Demand3}
 use Rattle.claims.proofs.Demand2.{went}
 

@@ -1,16 +1,13 @@
 -- What a text makes is right.
-use mathlib.Core.Path.{_≡_, refl}
-use mathlib.Core.List.{List}
-use Prim.Native.Nat.{ℕ}
+use mathlib.Core.Path.{refl}
 use native.Mathlib.Omega.{arith}
-use Rattle.rules.specs.Refusal.{Call, refused, answered}
-use Rattle.language.specs.Tree.{Tree}
+use Rattle.rules.specs.Refusal.{refused, answered}
 use Rattle.sheet.proofs.Own.{own-stands}
 use Rattle.sheet.proofs.Language.{own-language}
-use Rattle.text.specs.Outcome.{SheetEnd, SheetWent, made, short, SheetCall}
+use Rattle.text.specs.Outcome.{made, short}
 use Rattle.text.proofs.Made.{made-accepted}
 use Rattle.text.proofs.Numbers.{text-number}
-use Rattle.claims.specs.Made.{Means, MadeRight}
+use Rattle.claims.specs.Made.{MadeRight}
 
 pub made-right : MadeRight
 made-right text buffer s (refused {k = f} e) z = absurd (omega (arith, text-number text f e .low))

@@ -1,17 +1,17 @@
 -- The literals of tokens are bytes that may be written, a repeat's first number is at most its second, and a fault is 11 or 19.
-use mathlib.Core.Path.{_≡_, refl, ap, sym, _∙_}
+use mathlib.Core.Path.{_≡_, refl}
 use mathlib.Core.Logic.{_⊎_, inl, inr}
-use mathlib.Core.Bool.{Bool, true, false, true≢false, _&&_, _||_}
+use mathlib.Core.Bool.{Bool, true, false, _&&_, _||_}
 use mathlib.Core.List.{List, [], _∷_}
-use Prim.Native.Nat.{ℕ, zero, suc, _+_, _≤_, _<_}
+use Prim.Native.Nat.{ℕ, zero, suc, _+_, _≤_}
 use native.Mathlib.Omega.{arith}
-use lib.Dec.{eqb, leb, ltb}
-use lib.ListN.{drop, getD}
+use lib.Dec.{eqb, leb}
+use lib.ListN.{drop}
 use borrow.Author.Tests.{leb-true, eqb-true}
 use Rattle.rules.specs.Limits.{outside}
 use Rattle.rules.specs.Numbers.{strangeByte, strangeRepeat}
 use Rattle.lexer.specs.Bytes.{bar, asterisk, leftParenthesis, rightParenthesis, backslash, leftBrace, rightBrace, comma, isMark}
-use Rattle.lexer.specs.Tokens.{choose, Token, aLiteral, aBar, aStar, anOpen, aClose, aFault, Placed, placed, markAt, starts, Number, digits, noNumber, numberAt, Repeat, noRepeat, badRepeat, repeat, closed, counted, repeatAt, One, tok, wrong, literalOf, escapedOf, tokenOf, first, lex, tokensFrom}
+use Rattle.lexer.specs.Tokens.{choose, Token, aLiteral, aBar, aStar, anOpen, aClose, aFault, Placed, placed, starts, Number, digits, noNumber, numberAt, Repeat, noRepeat, badRepeat, repeat, closed, counted, repeatAt, One, tok, wrong, literalOf, escapedOf, tokenOf, first, lex, tokensFrom}
 
 -- a literal is within the range of literal bytes, and repeated rightly
 abbrev pub Literal : Token → Type 0

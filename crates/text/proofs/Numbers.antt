@@ -1,5 +1,5 @@
 -- Which numbers refuse a text: 10 to 19, and never 18.
-use mathlib.Core.Path.{_≡_, refl, sym, _∙_}
+use mathlib.Core.Path.{_≡_}
 use mathlib.Core.Logic.{inl, inr}
 use mathlib.Core.Bool.{Bool, true, false}
 use mathlib.Core.Option.{Option, none, some}
@@ -9,10 +9,9 @@ use native.Mathlib.Omega.{arith}
 use lib.Dec.{ltb}
 use lib.ListN.{length}
 use Rattle.rules.specs.Limits.{textLimit, openLimit, leafLimit, nodeLimit}
-use Rattle.rules.specs.Numbers.{longText, strangeByte, strangeRepeat, shortSheet, missingOperand, nothingOpen, leftOpen, tooDeep, manyLeaves, manyNodes}
-use Rattle.rules.specs.Refusal.{because, firstOf}
+use Rattle.rules.specs.Numbers.{longText, strangeRepeat, shortSheet, missingOperand, nothingOpen, leftOpen, tooDeep, manyLeaves, manyNodes}
 use Rattle.rules.proofs.Refusal.{Gives, AllGive, because-gives, first-gives}
-use Rattle.lexer.specs.Tokens.{choose, Token, aLiteral, aBar, aStar, anOpen, aClose, aFault, Placed, placed, tokensFrom}
+use Rattle.lexer.specs.Tokens.{choose, aLiteral, aBar, aStar, anOpen, aClose, aFault, Placed, placed, tokensFrom}
 use Rattle.lexer.proofs.Literals.{Literal, Writable, writable}
 use Rattle.sheet.specs.Make.{postorder}
 use Rattle.text.specs.Walk.{Fault, Frame, begin, going, Answer, tree, fault, run, parse}
