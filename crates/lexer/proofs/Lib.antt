@@ -1,1 +1,2 @@
 pub mod Literals
+pub mod Inside

@@ -1,3 +1,5 @@
 pub mod Parsing
 pub mod Made
 pub mod Outcome
+pub mod Numbers
+pub mod Places
