@@ -9,12 +9,13 @@ ghost use Rattle.rules.specs.Limits.{nameLimit, entrySize, areaFor, entries, wi
 ghost use Rattle.rules.specs.Refusal.{firstOf};
 ghost use Rattle.language.specs.Reading.{Pattern};
 ghost use Rattle.language.specs.Search.{accepts, isReading};
+ghost use Rattle.sheet.specs.Answer.{refusalOf};
 ghost use Rattle.sheet.specs.Refusals.{sheetRefusal};
 ghost use Rattle.sheet.specs.Stands.{standsFor};
 ghost use Rattle.rows.specs.Rows.{rowAt};
 ghost use Rattle.reader.specs.Refusals.{nameGrounds, mappingGrounds, bareGrounds, acceptGrounds};
 ghost use Rattle.reader.specs.Outcome.{cleared, given, AcceptCall, FirstCall, NextCall, CheckCall};
-ghost use Rattle.reader.specs.Answer.{endOf};
+ghost use Rattle.reader.specs.Answer.{orDone, numberOf, endOf};
 ghost use Rattle.reader.specs.Made.{reasonOf, FirstMade, NextMade, answerOf, leftBy};
 use automaton::FOLLOW_WORDS;
 use automaton::LETTER_WORDS;
@@ -47,6 +48,38 @@ enum Step {
     Found,
     NoMore,
     NoReading,
+}
+
+// The number for the test of a sheet.
+fn sheet_number(s: SheetAnswer) -> u64
+    ensures { λ r. ⌜ r ≡ orDone (refusalOf s) ⌝ }
+{
+    match s {
+        SheetAnswer::Accepted => 0,
+        SheetAnswer::OtherForm => 20,
+        SheetAnswer::OtherLength => 21,
+        SheetAnswer::ManyLiterals => 22,
+        SheetAnswer::StrangeEntry => 23,
+        SheetAnswer::FewWaiting => 24,
+        SheetAnswer::NotOneLeft => 25,
+        SheetAnswer::ManyWaiting => 26,
+        SheetAnswer::OtherLeaves => 27,
+    }
+}
+
+// The number for an answer.
+pub fn number(a: Answer) -> u64
+    ensures { λ r. ⌜ r ≡ numberOf a ⌝ }
+{
+    match a {
+        Answer::Done => 0,
+        Answer::NotSo => 1,
+        Answer::Sheet(s) => sheet_number(s),
+        Answer::LongName => 30,
+        Answer::ShortMapping => 31,
+        Answer::ShortWork => 32,
+        Answer::GivenNoReading => 33,
+    }
 }
 
 // 30 and 32.
