@@ -161,9 +161,9 @@ pub fn last_move(name: &[u8], mapping: &[u8], work: &[u8], follow: &[u64]) -> Mo
     ensures { λ r. ⌜ ((P : Pattern) → Follows P (now (follow .entry)) → RowsOf P (now (name .entry)) (now (work .entry)) → Moved P (now (name .entry)) (entries (length (now (name .entry))) (now (mapping .entry))) r) ⌝ }
 {
     let mut found = Move::Nowhere;
-    let mut i = name.len();
-    'search: while 0 < i {
-        i -= 1;
+    let mut left = name.len();
+    'search: while 0 < left {
+        let i = left - 1;
         let before = entry_before(mapping, Place(i));
         let mut q = entry(mapping, Place(i));
         loop {
@@ -176,6 +176,7 @@ pub fn last_move(name: &[u8], mapping: &[u8], work: &[u8], follow: &[u64]) -> Mo
                 break 'search;
             }
         }
+        left = i;
     }
     found
 }
