@@ -1,1 +1,4 @@
 pub mod Literals
+pub mod Front
+pub mod Repeats
+pub mod Units
