@@ -32,3 +32,14 @@ pub const MANY_NODES: usize = 17;
 pub const SHORT_SHEET: usize = 18;
 
 pub const STRANGE_REPEAT: usize = 19;
+
+// node bytes of a sheet
+pub const LEAF_NODE: u8 = 0;
+
+pub const EMPTY_NODE: u8 = 1;
+
+pub const CAT_NODE: u8 = 2;
+
+pub const UNION_NODE: u8 = 3;
+
+pub const STAR_NODE: u8 = 4;
