@@ -1,3 +1,7 @@
 pub mod Parsing
 pub mod Made
 pub mod Outcome
+pub mod Copies
+pub mod Faults
+pub mod Parts
+pub mod Readers
