@@ -33,7 +33,9 @@ pub const SHORT_SHEET: usize = 18;
 
 pub const STRANGE_REPEAT: usize = 19;
 
-// node bytes of a sheet
+// a sheet's form byte and its node bytes
+pub const FORM: u8 = 1;
+
 pub const LEAF_NODE: u8 = 0;
 
 pub const EMPTY_NODE: u8 = 1;

@@ -29,7 +29,7 @@ not-unit c h [] e u = clash (sym e)
 not-unit c h (b ∷ s) e u = clash (sym u ∙ ap startsUnit (eqb-true b c e) ∙ h)
 
 -- where none starts, and the text goes on without a closed parenthesis, a bar or a star stands
-joins : (a b c : Bool) → (not a && (not b && not c)) ≡ false → c ≡ false → a ≡ false → b ≡ true
+pub joins : (a b c : Bool) → (not a && (not b && not c)) ≡ false → c ≡ false → a ≡ false → b ≡ true
 joins true b c e f g = clash g
 joins false true c e f g = refl
 joins false false true e f g = clash f

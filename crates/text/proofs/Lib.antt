@@ -5,3 +5,6 @@ pub mod Copies
 pub mod Faults
 pub mod Parts
 pub mod Readers
+pub mod Walks
+pub mod Laid
+pub mod Call

@@ -183,3 +183,11 @@ module _ (t xs ys bs cs : List ℕ) (r : Read) (s : AltRead t openLimit 0 (out 0
         let n = all .2 in
         let e = at-end t next (all .1) w in
         (whole t xs ys bs cs next m k (all .0) e, omega (arith, n .inside), omega (arith, n .nodes, n .inside), omega (arith, n .leaves, n .inside))
+
+-- its answer, taken apart
+module _ (t xs ys bs cs : List ℕ) (r : Read) (w : TextRead t xs ys bs cs r) where
+  pub text-refused : (f : Refusal) → r ≡ Refused f → TextRead t xs ys bs cs (Refused f)
+  text-refused f e = rw e at w
+
+  pub text-read : (next m k : ℕ) → r ≡ Done next m k → TextRead t xs ys bs cs (Done next m k)
+  text-read next m k e = rw e at w

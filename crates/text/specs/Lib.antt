@@ -3,3 +3,5 @@ pub mod Walk
 pub mod Refusals
 pub mod Outcome
 pub mod Reads
+pub mod Answer
+pub mod Steps
