@@ -2,3 +2,6 @@ pub mod Grammar
 pub mod Walk
 pub mod Refusals
 pub mod Outcome
+pub mod Reads
+pub mod Answer
+pub mod Steps
