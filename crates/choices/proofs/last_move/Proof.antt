@@ -44,7 +44,7 @@ entry-requires c κs = search needs
 loop-holds : tie.Need-loop-holds Inv-loop μ-loop Inv-search μ-search
 loop-holds c =
     let q = c .entry .ensures in
-    (omega arith, q .1, c .before .before .before .search .leftnv .1, rw (q .0) (tried-none (rowHas (rowAt (c .before .before .before .before .before .before .before .before .args .work .now) (c .before .before .before .search .left - 1))) (has (c .before .before .before .before .before .before .before .before .args .follow .now) (c .before .entry-before .result .0)) _))
+    (omega arith, q .1, c .before .before .before .search .inv .1, rw (q .0) (tried-none (rowHas (rowAt (c .before .before .before .before .before .before .before .before .args .work .now) (c .before .before .before .search .left - 1))) (has (c .before .before .before .before .before .before .before .before .args .follow .now) (c .before .entry-before .result .0)) _))
 
 later-requires : tie.Need-later-requires Inv-loop μ-loop Inv-search μ-search
 later-requires c κs = search needs
@@ -77,7 +77,7 @@ search-again c =
     let e : suc i ≡ s .left = omega arith in (
       omega arith,
       l .inv .2,
-      λ P f r. still-turn P (g .name .now) (entries n m) i (c .before .before .before .before .before .entry-before .result .0) (g .follow .now) (g .work .now) f (r i (omega arith)) (omega arith) (omega (arith, entries-length n m (omega arith))) (before-is n m i (omega arith) ∙ sym (c .before .before .before .before .before .entry-before .ensures)) (rw e (s .leftnv .2 P f r))
+      λ P f r. still-turn P (g .name .now) (entries n m) i (c .before .before .before .before .before .entry-before .result .0) (g .follow .now) (g .work .now) f (r i (omega arith)) (omega arith) (omega (arith, entries-length n m (omega arith))) (before-is n m i (omega arith) ∙ sym (c .before .before .before .before .before .entry-before .ensures)) (rw e (s .inv .2 P f r))
           (rw (entry-is n m i (omega arith)) (tried-all _ _ (getD m i 0) (l .q .0) (c .before .before .later .result .0) (l .inv .3) (c .before .before .later .ensures .0) (l .inv .0) (c .if1 .taken))),
     )
 
@@ -86,7 +86,7 @@ returns c =
     let s = c .before .search in
     let g = c .before .before .before .before .before .before .args in
     let e : s .left ≡ 0 = omega arith in
-    rw (s .leftnv .1) (tt, λ P f r. still-end P (g .name .now) (entries (length (g .name .now)) (g .mapping .now)) (rw e at (s .leftnv .2 P f r)))
+    rw (s .inv .1) (tt, λ P f r. still-end P (g .name .now) (entries (length (g .name .now)) (g .mapping .now)) (rw e at (s .inv .2 P f r)))
 
 returns-2 : tie.Need-returns-2 Inv-loop μ-loop Inv-search μ-search
 returns-2 c =
@@ -99,7 +99,7 @@ returns-2 c =
     let e : suc i ≡ s .left = omega arith in
     let h = least-above _ _ _ (c .before .before .before .before .later .ensures .0) (c .before .before .if1 .left) in (
       (omega arith, c .before .before .before .before .later .ensures .1),
-      λ P f r. moves P (g .name .now) (entries n m) i (c .before .before .before .before .before .before .before .entry-before .result .0) (g .follow .now) (g .work .now) f (r i (omega arith)) (omega arith) (omega (arith, entries-length n m (omega arith))) (before-is n m i (omega arith) ∙ sym (c .before .before .before .before .before .before .before .entry-before .ensures)) (rw e (s .leftnv .2 P f r))
+      λ P f r. moves P (g .name .now) (entries n m) i (c .before .before .before .before .before .before .before .entry-before .result .0) (g .follow .now) (g .work .now) f (r i (omega arith)) (omega arith) (omega (arith, entries-length n m (omega arith))) (before-is n m i (omega arith) ∙ sym (c .before .before .before .before .before .before .before .entry-before .ensures)) (rw e (s .inv .2 P f r))
           (c .before .before .before .before .later .result .0) (omega arith)
           (rw (entry-is n m i (omega arith)) (tried-found _ _ (getD m i 0) (l .q .0) (c .before .before .before .before .later .result .0) (l .inv .3) (c .before .before .before .before .later .ensures .0) (l .inv .0) (c .before .before .if1 .left) (sym (c .before .follows .ensures) ∙ c .if2 .taken))),
     )
