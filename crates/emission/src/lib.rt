@@ -73,11 +73,11 @@ fn copies_from(nodes: &mut [u8], n: usize, x: usize, y: usize) -> usize
     requires { ⌜ (n < countLimit) × (y < countLimit) ⌝ }
     ensures { λ r. ⌜ Wrote n (now (nodes .entry)) r (now (nodes .exit)) (copiesFrom x 0 y) ⌝ }
 {
-    let mut i = 0;
+    let mut k = 0;
     let mut m = n;
-    while i < y {
-        m = copy(nodes, m, i, x);
-        i += 1;
+    while k < y {
+        m = copy(nodes, m, k, x);
+        k += 1;
     }
     m
 }

@@ -8,8 +8,8 @@ use Rattle.sheet.specs.declared.SheetAnswer.{SheetAnswer}
 use Rattle.sheet.specs.declared.SheetAnswer.the-variants.{Accepted, OtherForm, OtherLength, ManyLiterals, StrangeEntry, FewWaiting, NotOneLeft, ManyWaiting, OtherLeaves}
 use Rattle.sheet.specs.Answer.{refusalOf}
 use Rattle.text.specs.Outcome.{SheetEnd, made, short, SheetCall}
-use Rattle.text.specs.declared.SheetAnswer.{SheetAnswer as Made}
-use Rattle.text.specs.Answer.{sheetEnd}
+use Rattle.maker.specs.declared.SheetAnswer.{SheetAnswer as Made}
+use Rattle.maker.specs.Answer.{sheetEnd}
 use Rattle.text.proofs.Numbers.{text-number}
 use Rattle.text.proofs.Places.{place-small, sheet-small}
 use Rattle.reader.specs.Outcome.{End}

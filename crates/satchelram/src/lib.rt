@@ -54,10 +54,10 @@ fn number_of(a: Answer) -> u64
 pub extern "C" fn satchelram_sheet(text: &[u8], sheet: &mut [u8]) -> u64
     ensures { λ r. ⌜ Exports (SheetCall (now (text .entry)) (now (sheet .entry)) (sheetEndIn r (now (sheet .exit)))) r ⌝ }
 {
-    let a = text::make(text, sheet);
+    let a = maker::make(text, sheet);
     match a {
-        text::SheetAnswer::Made(n) => pack(0, n as u64),
-        text::SheetAnswer::Refused(f) => pack(f.number as u64, f.place as u64),
+        maker::SheetAnswer::Made(n) => pack(0, n as u64),
+        maker::SheetAnswer::Refused(f) => pack(f.number as u64, f.place as u64),
     }
 }
 

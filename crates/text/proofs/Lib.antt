@@ -7,6 +7,3 @@ pub mod Copies
 pub mod Faults
 pub mod Parts
 pub mod Readers
-pub mod Walks
-pub mod Laid
-pub mod Call

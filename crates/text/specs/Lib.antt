@@ -3,5 +3,3 @@ pub mod Walk
 pub mod Refusals
 pub mod Outcome
 pub mod Reads
-pub mod Answer
-pub mod Steps

@@ -9,10 +9,12 @@ use Rattle.emission.proofs.copy_in.Statement.{statement}
 use Rattle.emission.proofs.copy_in.Tie as tie
 
 abbrev Inv-loop : tie.InvT-loop
-Inv-loop buffer₀ at bytes n i₀ buffer i = (sets buffer (at + i) (take (n - i) (drop i bytes)) ≡ sets buffer₀ at (take n bytes)) × (i ≤ n) × (length buffer ≡ length buffer₀)
+Inv-loop buffer₀ at bytes n i₀ buffer i =
+    (sets buffer (at + i) (take (n - i) (drop i bytes)) ≡ sets buffer₀ at (take n bytes)) × (i ≤ n) × (length buffer ≡ length buffer₀)
 
 abbrev μ-loop : tie.MeasureT-loop
-μ-loop buffer₀ at bytes n i₀ buffer i = n - i
+μ-loop buffer₀ at bytes n i₀ buffer i =
+    n - i
 
 loop-holds : tie.Need-loop-holds Inv-loop μ-loop
 loop-holds c = let g = (c .args) in (copy-starts (g .buffer .now) (g .bytes .now) (g .at) (g .n), search needs, refl)

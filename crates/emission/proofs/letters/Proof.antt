@@ -8,10 +8,12 @@ use Rattle.emission.proofs.letters.Statement.{statement}
 use Rattle.emission.proofs.letters.Tie as tie
 
 abbrev Inv-loop : tie.InvT-loop
-Inv-loop lits₀ l b y i₀ lits i = Lettering l lits₀ b y i lits × (length lits ≡ length lits₀)
+Inv-loop lits₀ l b y i₀ lits i =
+    Lettering l lits₀ b y i lits × (length lits ≡ length lits₀)
 
 abbrev μ-loop : tie.MeasureT-loop
-μ-loop lits₀ l b y i₀ lits i = y - i
+μ-loop lits₀ l b y i₀ lits i =
+    y - i
 
 loop-holds : tie.Need-loop-holds Inv-loop μ-loop
 loop-holds c = let g = (c .before .args) in (lettering-starts (g .l) (g .lits .now) (g .b) (g .y), refl)

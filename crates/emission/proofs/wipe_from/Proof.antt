@@ -9,10 +9,12 @@ use Rattle.emission.proofs.wipe_from.Statement.{statement}
 use Rattle.emission.proofs.wipe_from.Tie as tie
 
 abbrev Inv-loop : tie.InvT-loop
-Inv-loop buffer₀ at i₀ buffer i = (take i buffer ++ replicate (length buffer₀ - i) 0 ≡ take at buffer₀ ++ replicate (length buffer₀ - at) 0) × (length buffer ≡ length buffer₀)
+Inv-loop buffer₀ at i₀ buffer i =
+    (take i buffer ++ replicate (length buffer₀ - i) 0 ≡ take at buffer₀ ++ replicate (length buffer₀ - at) 0) × (length buffer ≡ length buffer₀)
 
 abbrev μ-loop : tie.MeasureT-loop
-μ-loop buffer₀ at i₀ buffer i = length buffer₀ - i
+μ-loop buffer₀ at i₀ buffer i =
+    length buffer₀ - i
 
 loop-holds : tie.Need-loop-holds Inv-loop μ-loop
 loop-holds c = (refl, refl)

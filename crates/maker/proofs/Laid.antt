@@ -8,7 +8,7 @@ use lib.Seq.{sets, sets-eq, length-sets, take-at, length-take-le}
 use Rattle.rules.specs.Limits.{wiped, filled}
 use Rattle.emission.specs.Wrote.{Wrote}
 use Rattle.emission.proofs.Stores.{wrote-one, wrote-both}
-use Rattle.text.specs.Steps.{sections}
+use Rattle.maker.specs.Steps.{sections}
 
 -- zeros from the start on
 pub wiped-whole : (buffer : List ℕ) → take 0 buffer ++ replicate (length buffer - 0) 0 ≡ wiped buffer

@@ -1,11 +1,11 @@
 use borrow.Author.Needs.{needs}
 use lib.ListN.{replicate}
+use Rattle.maker.proofs.Call.{call-refused, refusal-long}
 use Rattle.rules.specs.Limits.{textLimit, nodeLimit, leafLimit}
 use Rattle.rules.specs.Numbers.{longText}
-use Rattle.text.proofs.Call.{call-refused, refusal-long}
 use Rattle.text.proofs.Readers.{text-refused, text-read}
-use Rattle.text.proofs.make.Statement.{statement}
-use Rattle.text.proofs.make.Tie as tie
+use Rattle.maker.proofs.make.Statement.{statement}
+use Rattle.maker.proofs.make.Tie as tie
 
 refuse-requires : tie.Need-refuse-requires
 refuse-requires c κs = search needs

@@ -4,11 +4,11 @@ use lib.ListN.{length}
 use mathlib.Core.Path.{refl, _≡_}
 use native.Mathlib.Omega.{arith}
 use Rattle.lexer.specs.Tokens.{tokensFrom}
+use Rattle.maker.proofs.Walks.{passes-none, passing-over, step-wrong, step-on, passes-here, passes-later, passes-end}
 use Rattle.rules.specs.Limits.{leafLimit}
-use Rattle.text.proofs.Walks.{passes-none, passing-over, step-wrong, step-on, passes-here, passes-later, passes-end}
 use Rattle.text.specs.Refusals.{passing}
-use Rattle.text.proofs.passing_place.Statement.{statement}
-use Rattle.text.proofs.passing_place.Tie as tie
+use Rattle.maker.proofs.passing_place.Statement.{statement}
+use Rattle.maker.proofs.passing_place.Tie as tie
 
 abbrev Inv-loop : tie.InvT-loop
 Inv-loop text i₀ n₀ i n =

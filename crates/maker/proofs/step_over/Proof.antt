@@ -1,9 +1,9 @@
 use borrow.Author.Needs.{needs}
 use mathlib.Core.Path.{sym, _∙_}
 use Rattle.lexer.proofs.Units.{literal-fault, literal-taken}
-use Rattle.text.proofs.Walks.{step-open, step-literal, step-mark}
-use Rattle.text.proofs.step_over.Statement.{statement}
-use Rattle.text.proofs.step_over.Tie as tie
+use Rattle.maker.proofs.Walks.{step-open, step-literal, step-mark}
+use Rattle.maker.proofs.step_over.Statement.{statement}
+use Rattle.maker.proofs.step_over.Tie as tie
 
 is-requires : tie.Need-is-requires
 is-requires c κs = search needs

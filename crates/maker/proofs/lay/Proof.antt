@@ -3,9 +3,9 @@ use borrow.Author.Needs.{needs}
 use lib.ListN.{length-set, set}
 use mathlib.Core.Path.{refl}
 use native.Mathlib.Omega.{arith}
-use Rattle.text.proofs.Laid.{laid-filled, laid}
-use Rattle.text.proofs.lay.Statement.{statement}
-use Rattle.text.proofs.lay.Tie as tie
+use Rattle.maker.proofs.Laid.{laid-filled, laid}
+use Rattle.maker.proofs.lay.Statement.{statement}
+use Rattle.maker.proofs.lay.Tie as tie
 
 slice-write-sheet : tie.Need-slice-write-sheet
 slice-write-sheet c = search needs

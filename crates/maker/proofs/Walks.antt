@@ -16,12 +16,12 @@ use Rattle.lexer.specs.Bytes.{bar, asterisk, leftParenthesis, rightParenthesis}
 use Rattle.lexer.specs.Tokens.{choose, Placed, placed, aLiteral, aBar, aStar, anOpen, aClose, starts, tokensFrom}
 use Rattle.lexer.specs.Places.{unitAt, Taken, Faulty}
 use Rattle.lexer.proofs.Front.{front-in, byte-inside, tokens-end, tokens-bar, tokens-star, tokens-open, tokens-close}
-use Rattle.text.specs.declared.Step.{Step}
-use Rattle.text.specs.declared.Step.the-variants.{On, Wrong}
+use Rattle.maker.specs.declared.Step.{Step}
+use Rattle.maker.specs.declared.Step.the-variants.{On, Wrong}
 use Rattle.text.specs.Refusals.{at, lexical, leavesOf, passing}
-use Rattle.text.specs.Steps.{Stepped, StepIs, FirstWalk, PassesAt}
+use Rattle.maker.specs.Steps.{Stepped, StepIs, FirstWalk, PassesAt}
 use Rattle.text.proofs.Faults.{joins}
 use Rattle.text.proofs.Made.{total}
 
 -- A STEP
 module _ (t : List ℕ) (here : ℕ) where

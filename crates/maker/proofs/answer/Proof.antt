@@ -1,8 +1,8 @@
 use borrow.Author.Needs.{needs}
 use native.Mathlib.Omega.{arith}
-use Rattle.text.proofs.Call.{call-leaves, call-nodes, call-short, call-made}
-use Rattle.text.proofs.answer.Statement.{statement}
-use Rattle.text.proofs.answer.Tie as tie
+use Rattle.maker.proofs.Call.{call-leaves, call-nodes, call-short, call-made}
+use Rattle.maker.proofs.answer.Statement.{statement}
+use Rattle.maker.proofs.answer.Tie as tie
 
 passing-place-requires : tie.Need-passing-place-requires
 passing-place-requires c κs = search needs

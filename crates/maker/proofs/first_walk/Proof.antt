@@ -4,10 +4,10 @@ use lib.ListN.{length}
 use mathlib.Core.Path.{refl, _≡_}
 use native.Mathlib.Omega.{arith}
 use Rattle.lexer.specs.Tokens.{tokensFrom}
-use Rattle.text.proofs.Walks.{walk-wrong, step-on, walk-on, walk-end}
+use Rattle.maker.proofs.Walks.{walk-wrong, step-on, walk-on, walk-end}
 use Rattle.text.specs.Refusals.{lexical}
-use Rattle.text.proofs.first_walk.Statement.{statement}
-use Rattle.text.proofs.first_walk.Tie as tie
+use Rattle.maker.proofs.first_walk.Statement.{statement}
+use Rattle.maker.proofs.first_walk.Tie as tie
 
 abbrev Inv-loop : tie.InvT-loop
 Inv-loop text i₀ i =

@@ -7,11 +7,11 @@ use lib.ListN.{length, take}
 use Rattle.rules.specs.Numbers.{manyLeaves}
 use Rattle.lexer.specs.Tokens.{Token, Placed, placed, tokensFrom}
 use Rattle.lexer.specs.Places.{mostCopies, Faulty}
-use Rattle.text.specs.declared.Step.{Step}
-use Rattle.text.specs.declared.Step.the-variants.{On, Wrong}
+use Rattle.maker.specs.declared.Step.{Step}
+use Rattle.maker.specs.declared.Step.the-variants.{On, Wrong}
 use Rattle.text.specs.Walk.{Fault}
 use Rattle.text.specs.Refusals.{at, lexical, leavesOf, passing}
 use Rattle.text.specs.Reads.{faultOf}
 
 -- a token that is no fault stands here, with y leaves
 pub record Stepped (t : List ℕ) (here next y : ℕ) : Type 0 where

@@ -18,20 +18,20 @@ use Rattle.lexer.specs.declared.Refusal.{Refusal}
 use Rattle.lexer.specs.Tokens.{Placed, placed, aLiteral, aBar, aStar, anOpen, aClose, aFault, tokensFrom}
 use Rattle.lexer.proofs.Literals.{writable}
 use Rattle.emission.specs.Wrote.{Wrote}
-use Rattle.text.specs.declared.SheetAnswer.{SheetAnswer}
-use Rattle.text.specs.declared.SheetAnswer.the-variants.{Made, Refused}
-use Rattle.text.specs.declared.Step.{Step}
-use Rattle.text.specs.declared.Step.the-variants.{On, Wrong}
+use Rattle.maker.specs.declared.SheetAnswer.{SheetAnswer}
+use Rattle.maker.specs.declared.SheetAnswer.the-variants.{Made, Refused}
+use Rattle.maker.specs.declared.Step.{Step}
+use Rattle.maker.specs.declared.Step.the-variants.{On, Wrong}
 use Rattle.text.specs.Walk.{Fault, Frame, begin, going, tree, fault, run, parse}
 use Rattle.text.specs.Refusals.{at, lexical, passing, textRefusal}
 use Rattle.text.specs.Outcome.{made, short, SheetCall}
-use Rattle.text.specs.Answer.{sheetEnd}
+use Rattle.maker.specs.Answer.{sheetEnd}
 use Rattle.text.specs.Reads.{faultOf, Whole}
-use Rattle.text.specs.Steps.{FirstWalk, PassesAt, sections}
+use Rattle.maker.specs.Steps.{FirstWalk, PassesAt, sections}
 use Rattle.text.proofs.Parsing.{parse-iff}
 use Rattle.text.proofs.Made.{total, passed-total, known}
-use Rattle.text.proofs.Walks.{passing-none}
-use Rattle.text.proofs.Laid.{sets-front}
+use Rattle.maker.proofs.Walks.{passing-none}
+use Rattle.maker.proofs.Laid.{sets-front}
 
 never : {A : Type 0} {f : Fault} {t : Tree ℕ} → fault f ≡ tree t → A
 never e = let z : _≡_ {A = ℕ} 0 1 = cc in absurd (omega arith)

@@ -1,7 +1,7 @@
 use borrow.Author.Needs.{needs}
-use Rattle.text.proofs.Call.{call-grammatical, call-lexical}
-use Rattle.text.proofs.refuse_first.Statement.{statement}
-use Rattle.text.proofs.refuse_first.Tie as tie
+use Rattle.maker.proofs.Call.{call-grammatical, call-lexical}
+use Rattle.maker.proofs.refuse_first.Statement.{statement}
+use Rattle.maker.proofs.refuse_first.Tie as tie
 
 first-walk-requires : tie.Need-first-walk-requires
 first-walk-requires c κs = search needs

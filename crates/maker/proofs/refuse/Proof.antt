@@ -1,8 +1,8 @@
 use borrow.Author.Needs.{needs}
 use mathlib.Core.Path.{refl, _∙_}
-use Rattle.text.proofs.Laid.{wiped-whole}
-use Rattle.text.proofs.refuse.Statement.{statement}
-use Rattle.text.proofs.refuse.Tie as tie
+use Rattle.maker.proofs.Laid.{wiped-whole}
+use Rattle.maker.proofs.refuse.Statement.{statement}
+use Rattle.maker.proofs.refuse.Tie as tie
 
 wipe-from-requires : tie.Need-wipe-from-requires
 wipe-from-requires c κs = search needs

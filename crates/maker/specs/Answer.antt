@@ -2,9 +2,9 @@
 use mathlib.Core.List.{List}
 use Prim.Native.Nat.{ℕ}
 use Rattle.rules.specs.Numbers.{done}
-use Rattle.text.specs.declared.SheetAnswer.{SheetAnswer}
-use Rattle.text.specs.declared.SheetAnswer.the-variants.{Made, Refused}
+use Rattle.maker.specs.declared.SheetAnswer.{SheetAnswer}
+use Rattle.maker.specs.declared.SheetAnswer.the-variants.{Made, Refused}
 use Rattle.text.specs.Outcome.{SheetEnd}
 
 abbrev pub sheetEnd : SheetAnswer → List ℕ → SheetEnd
 sheetEnd (Made n) sheet = record { number = done; second = n; sheet = sheet }
