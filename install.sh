@@ -20,8 +20,9 @@ case $1 in
 *) stop "the prefix must be an absolute path: $1" ;;
 esac
 [ -f "$archive" ] || stop "no archive at $archive: make it with rt staticlib satchelram"
+symbols=$(nm -g --defined-only "$archive")
 for call in sheet accept first next check; do
-    nm -g --defined-only "$archive" | grep -q " T satchelram_$call\$" || stop "$archive does not define satchelram_$call"
+    grep -q " T satchelram_$call\$" <<<"$symbols" || stop "$archive does not define satchelram_$call"
 done
 version=$(sed -n 's/^#define SATCHELRAM_VERSION "\(.*\)"$/\1/p' "$header")
 [ -n "$version" ] || stop "$header names no version"
