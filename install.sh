@@ -9,7 +9,10 @@ stop() {
     exit 1
 }
 
-[ $# -ge 1 ] && [ $# -le 2 ] || stop "usage: install.sh PREFIX [ARCHIVE_DIR]"
+case $# in
+1 | 2) ;;
+*) stop "usage: install.sh PREFIX [ARCHIVE_DIR]" ;;
+esac
 root=$(cd "$(dirname "$0")" && pwd)
 prefix=${1%/}
 archive=${2:-$root/target/staticlib}/libsatchelram.a
@@ -20,9 +23,8 @@ case $1 in
 *) stop "the prefix must be an absolute path: $1" ;;
 esac
 [ -f "$archive" ] || stop "no archive at $archive: make it with rt staticlib satchelram"
-symbols=$(nm -g --defined-only "$archive")
 for call in sheet accept first next check; do
-    grep -q " T satchelram_$call\$" <<<"$symbols" || stop "$archive does not define satchelram_$call"
+    grep -aq "satchelram_$call" "$archive" || stop "$archive does not hold satchelram_$call"
 done
 version=$(sed -n 's/^#define SATCHELRAM_VERSION "\(.*\)"$/\1/p' "$header")
 [ -n "$version" ] || stop "$header names no version"
