@@ -1,6 +1,7 @@
 #!/usr/bin/env bash
-# bench/run.sh [ARCHIVE_DIR]: counts instructions (callgrind) and times pathological expressions for PCRE2, RE2 and, if
-# ARCHIVE_DIR holds libsatchelram.a, for our calls. Never a test; RESULTS.md says what is counted and why.
+# bench/run.sh [ARCHIVE_DIR]: counts instructions (callgrind) and times pathological expressions for PCRE2 and RE2, and
+# with ARCHIVE_DIR/libsatchelram.a for our calls, whose stack it measures too. Never a test; RESULTS.md says what is
+# counted and why.
 # x86-64 only: a count under an emulator or of another build says nothing about the archive.
 set -euo pipefail
 
@@ -69,3 +70,9 @@ echo "pathological expressions, a 255-byte name, microseconds (least of 20)"
 for engine in "${engines[@]}"; do
     "$out/$engine" wild
 done
+if [ -n "$archive" ]; then
+    echo
+    echo "stack of a call on large inputs"
+    gcc "${flags[@]}" -std=gnu99 stack.c "$archive" -Wl,-z,now -o "$out/stack"
+    "$out/stack"
+fi
