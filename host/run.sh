@@ -1,7 +1,7 @@
 #!/usr/bin/env bash
 # host/run.sh ARCHIVE_DIR [--long] [--seed N]
 # Holds ARCHIVE_DIR/libsatchelram.a against the second matcher and the documents, compiles the header as C and C++, installs
-# the library into a passing folder and runs demo.c from there. --long: a much longer comparison, by a seed from the
+# the library into a temporary folder and runs demo.c from there. --long: a much longer comparison, by a seed from the
 # clock. --seed: the first seed of the random inputs (1 otherwise); a failed round prints its own.
 #
 # The archive is x86-64. On an aarch64 machine everything is built for x86-64 with Debian's packages and run by qemu.
@@ -80,8 +80,8 @@ x86_64 | aarch64) "set_up_$machine" ;;
 *) stop "no way to run x86-64 programs on $machine is written down here" ;;
 esac
 
-passing=$(mktemp -d)
-trap 'rm -rf "$passing"' EXIT
+temporary=$(mktemp -d)
+trap 'rm -rf "$temporary"' EXIT
 warnings=(-Wall -Wextra -Werror -pedantic -Wconversion -Wshadow)
 
 # The comparison with the second matcher, and the examples of the documents.
@@ -95,9 +95,9 @@ compare() {
 hold_header() {
     local language=$1 standard=$2
     shift 2
-    "$@" -std="$standard" "${warnings[@]}" -O1 -I include -o "$passing/header" -x "$language" host/header.c -x none "$archive_dir/libsatchelram.a" ||
+    "$@" -std="$standard" "${warnings[@]}" -O1 -I include -o "$temporary/header" -x "$language" host/header.c -x none "$archive_dir/libsatchelram.a" ||
         stop "the header does not compile as $standard"
-    "${runner[@]}" "$passing/header" || stop "the header and the archive differ ($standard)"
+    "${runner[@]}" "$temporary/header" || stop "the header and the archive differ ($standard)"
 }
 
 hold_headers() {
@@ -113,12 +113,12 @@ hold_headers() {
 # demo.c as its first lines say, from an installed library.
 demonstrate() {
     local flags
-    ./install.sh "$passing/prefix" "$archive_dir" || stop "the library could not be installed"
-    flags=$(PKG_CONFIG_LIBDIR=$passing/prefix/lib/pkgconfig pkg-config --cflags --libs satchelram) || stop "pkg-config does not find the library"
+    ./install.sh "$temporary/prefix" "$archive_dir" || stop "the library could not be installed"
+    flags=$(PKG_CONFIG_LIBDIR=$temporary/prefix/lib/pkgconfig pkg-config --cflags --libs satchelram) || stop "pkg-config does not find the library"
     # shellcheck disable=SC2086 # the flags are words
-    "${cc[@]}" -std=c99 "${warnings[@]}" host/demo.c $flags -o "$passing/demo" || stop "the demo does not compile"
-    "${runner[@]}" "$passing/demo" >"$passing/demo.printed" || stop "the demo failed"
-    diff host/demo.expected "$passing/demo.printed" || stop "the demo prints something else than host/demo.expected"
+    "${cc[@]}" -std=c99 "${warnings[@]}" host/demo.c $flags -o "$temporary/demo" || stop "the demo does not compile"
+    "${runner[@]}" "$temporary/demo" >"$temporary/demo.printed" || stop "the demo failed"
+    diff host/demo.expected "$temporary/demo.printed" || stop "the demo prints something else than host/demo.expected"
     echo "demo: as expected"
 }
 
