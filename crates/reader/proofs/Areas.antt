@@ -31,6 +31,10 @@ filled-whole n mapping reading end h l t d =
     let e : length reading ≡ n = ap length (sym t) ∙ length-take-le n end (omega arith) in
     sym (take-append-drop n end) ∙ rw (t, d, e) refl
 
+-- nothing and zeros
+pub filled-none : (mapping : List ℕ) → filled mapping (take 0 mapping) ≡ wiped mapping
+filled-none mapping = let e : length mapping - 0 ≡ length mapping = omega arith in rw e refl
+
 -- written into a wiped mapping
 pub wiped-after : (n : ℕ) (mapping end : List ℕ) → drop n end ≡ drop n (wiped mapping) → drop n end ≡ replicate (length mapping - n) 0
 wiped-after n mapping end e = e ∙ drop-zeros n (length mapping)

@@ -5,7 +5,7 @@ use mathlib.Core.Option.{none, some}
 use mathlib.Core.List.{List, []}
 use Prim.Native.Nat.{ℕ, _+_, _≤_}
 use lib.Dec.{T}
-use lib.ListN.{length, length-replicate}
+use lib.ListN.{length, take, length-replicate}
 use Rattle.rules.specs.Limits.{wiped, filled}
 use Rattle.rules.specs.Refusal.{firstOf, refused, answered}
 use Rattle.language.specs.Tree.{size}
@@ -19,13 +19,13 @@ use Rattle.rows.proofs.Live.{T-true}
 use Rattle.reader.specs.Refusals.{nameGrounds, mappingGrounds, bareGrounds, acceptGrounds}
 use Rattle.reader.specs.Outcome.{cleared, given, accepted, notIn, AcceptCall, found, absent, FirstCall, NextWent, foundNext, noMore, noReading, NextCall, right, wrong, CheckCall}
 use Rattle.reader.specs.Answer.{numberOf, endOf}
-use Rattle.reader.specs.Made.{FirstMade, NextMade, answerOf, leftBy}
+use Rattle.reader.specs.Made.{FirstMade, NextMade, answerOf, keptBy}
 use Rattle.reader.specs.declared.Answer.{Answer}
 use Rattle.reader.specs.declared.Answer.the-variants.{Done, NotSo}
 use Rattle.reader.specs.declared.Step.{Step}
 use Rattle.reader.specs.declared.Step.the-variants.{Found, NoMore, NoReading}
 use Rattle.reader.proofs.Settled.{pattern-of}
-use Rattle.reader.proofs.Areas.{filled-whole, wiped-after}
+use Rattle.reader.proofs.Areas.{filled-whole, filled-none, wiped-after}
 
 not-T : (b : Bool) → b ≡ false → T b → ⊥
 not-T b e h = rw e at h
@@ -83,12 +83,12 @@ module _ (sheet name mapping work : List ℕ) where
       nowhere : Reading P name (given name mapping) → Next (Reading P name) (given name mapping) none → NextWent sheet name mapping work (endOf NotSo (wiped mapping) (cleared name work))
       nowhere g (stuck m) = noMore x g m
 
-      went : (s : Step) → NextMade P name mapping after s → NextWent sheet name mapping work (endOf (answerOf s) (leftBy s (length name) after) (cleared name work))
+      went : (s : Step) → NextMade P name mapping after s → NextWent sheet name mapping work (endOf (answerOf s) (filled after (take (keptBy s (length name)) after)) (cleared name work))
       went Found (a, m) = rw l (there (is a) (rw m at (next-right P n name (given name mapping) (is a))))
-      went NoMore (a, m) = rw l (nowhere (is a) (rw m at (next-right P n name (given name mapping) (is a))))
-      went NoReading a = rw l (noReading x (λ g. not-T (isReading P name (given name mapping)) a (reading-decides P n name (given name mapping) .from g)))
+      went NoMore (a, m) = rw (filled-none after, l) (nowhere (is a) (rw m at (next-right P n name (given name mapping) (is a))))
+      went NoReading a = rw (filled-none after, l) (noReading x (λ g. not-T (isReading P name (given name mapping)) a (reading-decides P n name (given name mapping) .from g)))
 
-    pub next-went : (s : Step) (after : List ℕ) → length after ≡ length mapping → end ≡ leftBy s (length name) after
+    pub next-went : (s : Step) (after : List ℕ) → length after ≡ length mapping → end ≡ filled after (take (keptBy s (length name)) after)
         → ((P : Pattern) → standsFor sheet ≡ some P → NextMade P name mapping after s) → NextCall sheet name mapping work (endOf (answerOf s) end area)
     next-went s after l m made =
         let (P, x, n) = pattern-of sheet name mapping work (nameGrounds name mapping work) e in

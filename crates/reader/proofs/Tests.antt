@@ -7,19 +7,19 @@ use Prim.Native.Nat.{ℕ, _*_, _≤_}
 use native.Mathlib.Omega.{arith}
 use lib.Dec.{ltb}
 use lib.ListN.{length}
-use borrow.Author.Tests.{ltb-false}
+use borrow.Author.Tests.{ltb-false, le-ltb}
 use types.Run.{OneOf}
 use denote.Enum.Declared.{tagOf}
 use Rattle.rules.specs.Limits.{nameLimit, entrySize, areaFor}
 use Rattle.rules.specs.Numbers.{longName, shortMapping, shortWork}
-use Rattle.rules.specs.Refusal.{firstOf}
+use Rattle.rules.specs.Refusal.{because, firstOf}
 use Rattle.rules.proofs.Refusal.{passed, not-because, first-part, later-part, front-part}
 use Rattle.sheet.specs.Answer.{refusalOf}
 use Rattle.sheet.specs.Refusals.{sheetGrounds, sheetRefusal}
 use Rattle.sheet.specs.declared.SheetAnswer.{SheetAnswer}
 use Rattle.sheet.specs.declared.SheetAnswer.the-variants.{Accepted, OtherForm, OtherLength, ManyLiterals, StrangeEntry, FewWaiting, NotOneLeft, ManyWaiting, OtherLeaves}
 use Rattle.sheet.proofs.SheetAnswer.{the-type}
-use Rattle.reader.specs.Refusals.{nameGrounds, mappingGrounds, bareGrounds, acceptGrounds}
+use Rattle.reader.specs.Refusals.{nameGrounds, mappingGrounds, acceptGrounds}
 use Rattle.reader.specs.Answer.{orDone}
 
 -- what is one of these is not 0
@@ -60,16 +60,6 @@ pub record Fit (sheet name work : List ℕ) : Type 0 where
   pub short : length name ≤ nameLimit
   pub room : areaFor name ≤ length work
 
-pub accept-fit : (sheet name work : List ℕ) → firstOf (acceptGrounds sheet name work) ≡ none → Fit sheet name work
-accept-fit sheet name work e =
-    let a = front-part (sheetGrounds sheet) (bareGrounds name work) e in
-    let (p, (q, u)) = passed (bareGrounds name work) (sym (later-part (sheetGrounds sheet) (bareGrounds name work) a) ∙ e) in
-    record {
-      accepted = a;
-      short = ltb-false nameLimit (length name) (not-because (ltb nameLimit (length name)) longName p);
-      room = ltb-false (length work) (areaFor name) (not-because (ltb (length work) (areaFor name)) shortWork q);
-    }
-
 pub mapping-fit : (sheet name mapping work : List ℕ) → firstOf (mappingGrounds sheet name mapping work) ≡ none → Fit sheet name work × (length name ≤ length mapping)
 mapping-fit sheet name mapping work e =
     let a = front-part (sheetGrounds sheet) (nameGrounds name mapping work) e in
@@ -82,3 +72,16 @@ mapping-fit sheet name mapping work e =
       },
       omega arith,
     )
+
+-- a ground that does not hold may be left out
+left-out : (gs : List (Option ℕ)) (g : Option ℕ) (hs : List (Option ℕ)) → firstOf (gs ++ g ∷ none ∷ hs) ≡ firstOf (gs ++ g ∷ hs)
+left-out [] none hs = refl
+left-out [] (some k) hs = refl
+left-out (none ∷ gs) g hs = left-out gs g hs
+left-out (some k ∷ gs) g hs = refl
+
+-- a mapping as long as the name is long enough
+pub accept-grounds : (sheet name work : List ℕ) → firstOf (mappingGrounds sheet name name work) ≡ firstOf (acceptGrounds sheet name work)
+accept-grounds sheet name work =
+    rw (le-ltb (length name) (entrySize * length name) (omega arith))
+    (left-out (sheetGrounds sheet) (because (ltb nameLimit (length name)) longName) (because (ltb (length work) (areaFor name)) shortWork ∷ []))

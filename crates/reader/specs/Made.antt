@@ -5,7 +5,6 @@ use mathlib.Core.Option.{Option, none, some}
 use mathlib.Core.List.{List}
 use Prim.Native.Nat.{ℕ}
 use lib.ListN.{length, take, drop}
-use Rattle.rules.specs.Limits.{wiped, filled}
 use Rattle.language.specs.Reading.{Pattern}
 use Rattle.language.specs.Search.{accepts, firstReading, isReading, nextReading}
 use Rattle.reader.specs.Outcome.{given}
@@ -34,13 +33,13 @@ NextMade P name mapping after Found = (isReading P name (given name mapping) ≡
 NextMade P name mapping after NoMore = (isReading P name (given name mapping) ≡ true) × (nextReading P name (given name mapping) ≡ none)
 NextMade P name mapping after NoReading = isReading P name (given name mapping) ≡ false
 
--- the answer for it, and what it leaves of a mapping for n entries
+-- the answer for it, and how many of n entries it leaves in the mapping
 abbrev pub answerOf : Step → Answer
 answerOf Found = Done
 answerOf NoMore = NotSo
 answerOf NoReading = GivenNoReading
 
-abbrev pub leftBy : Step → ℕ → List ℕ → List ℕ
-leftBy Found n mapping = filled mapping (take n mapping)
-leftBy NoMore n mapping = wiped mapping
-leftBy NoReading n mapping = wiped mapping
+abbrev pub keptBy : Step → ℕ → ℕ
+keptBy Found n = n
+keptBy NoMore n = 0
+keptBy NoReading n = 0

@@ -9,13 +9,14 @@ ghost use Rattle.rules.specs.Limits.{nameLimit, entrySize, areaFor, entries, wi
 ghost use Rattle.rules.specs.Refusal.{firstOf};
 ghost use Rattle.language.specs.Reading.{Pattern};
 ghost use Rattle.language.specs.Search.{accepts, isReading};
+ghost use Rattle.sheet.specs.Answer.{refusalOf};
 ghost use Rattle.sheet.specs.Refusals.{sheetRefusal};
 ghost use Rattle.sheet.specs.Stands.{standsFor};
 ghost use Rattle.rows.specs.Rows.{rowAt};
-ghost use Rattle.reader.specs.Refusals.{nameGrounds, mappingGrounds, bareGrounds, acceptGrounds};
+ghost use Rattle.reader.specs.Refusals.{nameGrounds, mappingGrounds};
 ghost use Rattle.reader.specs.Outcome.{cleared, given, AcceptCall, FirstCall, NextCall, CheckCall};
-ghost use Rattle.reader.specs.Answer.{endOf};
-ghost use Rattle.reader.specs.Made.{reasonOf, FirstMade, NextMade, answerOf, leftBy};
+ghost use Rattle.reader.specs.Answer.{orDone, numberOf, endOf};
+ghost use Rattle.reader.specs.Made.{reasonOf, FirstMade, NextMade, answerOf, keptBy};
 use automaton::FOLLOW_WORDS;
 use automaton::LETTER_WORDS;
 use bits::SET_WORDS;
@@ -49,17 +50,36 @@ enum Step {
     NoReading,
 }
 
-// 30 and 32.
-fn bare_test(name: &[u8], work: &[u8]) -> Test
-    ensures { λ r. ⌜ reasonOf r ≡ firstOf (bareGrounds (now (name .entry)) (now (work .entry))) ⌝ }
+// The number for the test of a sheet.
+fn sheet_number(s: SheetAnswer) -> u64
+    ensures { λ r. ⌜ r ≡ orDone (refusalOf s) ⌝ }
 {
-    if NAME_LIMIT < name.len() {
-        return Test::Refused(Answer::LongName);
+    match s {
+        SheetAnswer::Accepted => 0,
+        SheetAnswer::OtherForm => 20,
+        SheetAnswer::OtherLength => 21,
+        SheetAnswer::ManyLiterals => 22,
+        SheetAnswer::StrangeEntry => 23,
+        SheetAnswer::FewWaiting => 24,
+        SheetAnswer::NotOneLeft => 25,
+        SheetAnswer::ManyWaiting => 26,
+        SheetAnswer::OtherLeaves => 27,
     }
-    if work.len() < ROW_SIZE * (name.len() + 1) {
-        return Test::Refused(Answer::ShortWork);
+}
+
+// The number for an answer.
+pub fn number(a: Answer) -> u64
+    ensures { λ r. ⌜ r ≡ numberOf a ⌝ }
+{
+    match a {
+        Answer::Done => 0,
+        Answer::NotSo => 1,
+        Answer::Sheet(s) => sheet_number(s),
+        Answer::LongName => 30,
+        Answer::ShortMapping => 31,
+        Answer::ShortWork => 32,
+        Answer::GivenNoReading => 33,
     }
-    Test::Passed
 }
 
 // 30, 31 and 32.
@@ -78,19 +98,8 @@ fn name_test(name: &[u8], mapping: &[u8], work: &[u8]) -> Test
     Test::Passed
 }
 
-// 20 to 27, then 30 and 32.
-fn accept_test(sheet: &[u8], name: &[u8], work: &[u8]) -> Test
-    ensures { λ r. ⌜ reasonOf r ≡ firstOf (acceptGrounds (now (sheet .entry)) (now (name .entry)) (now (work .entry))) ⌝ }
-{
-    let s = sheet::test(sheet);
-    let SheetAnswer::Accepted = s else {
-        return Test::Refused(Answer::Sheet(s));
-    };
-    bare_test(name, work)
-}
-
 // 20 to 27, then 30, 31 and 32.
-fn mapping_test(sheet: &[u8], name: &[u8], mapping: &[u8], work: &[u8]) -> Test
+fn call_test(sheet: &[u8], name: &[u8], mapping: &[u8], work: &[u8]) -> Test
     ensures { λ r. ⌜ reasonOf r ≡ firstOf (mappingGrounds (now (sheet .entry)) (now (name .entry)) (now (mapping .entry)) (now (work .entry))) ⌝ }
 {
     let s = sheet::test(sheet);
@@ -168,25 +177,33 @@ fn next_reading(sheet: &[u8], name: &[u8], mapping: &mut [u8], work: &mut [u8]) 
     Step::NoMore
 }
 
-// Leaves in the mapping only a reading that was found, and answers.
-fn settle(mapping: &mut [u8], n: usize, s: Step) -> Answer
-    requires { ⌜ n ≤ length (now mapping) ⌝ }
-    ensures { λ r. ⌜ (r ≡ answerOf s) × (now (mapping .exit) ≡ leftBy s n (now (mapping .entry))) ⌝ }
+// How many of n entries stay in the mapping.
+fn kept_by(s: Step, n: usize) -> usize
+    ensures { λ r. ⌜ (r ≡ keptBy s n) × (r ≤ n) ⌝ }
 {
     match s {
-        Step::Found => {
-            wipe_all(&mut mapping[n..]);
-            Answer::Done
-        }
-        Step::NoMore => {
-            wipe_all(mapping);
-            Answer::NotSo
-        }
-        Step::NoReading => {
-            wipe_all(mapping);
-            Answer::GivenNoReading
-        }
+        Step::Found => n,
+        Step::NoMore => 0,
+        Step::NoReading => 0,
     }
+}
+
+fn answer_of(s: Step) -> Answer
+    ensures { λ r. ⌜ r ≡ answerOf s ⌝ }
+{
+    match s {
+        Step::Found => Answer::Done,
+        Step::NoMore => Answer::NotSo,
+        Step::NoReading => Answer::GivenNoReading,
+    }
+}
+
+// A refusal that wipes the mapping.
+fn refuse(mapping: &mut [u8], a: Answer) -> Answer
+    ensures { λ r. ⌜ (r ≡ a) × (now (mapping .exit) ≡ wiped (now (mapping .entry))) ⌝ }
+{
+    wipe_all(mapping);
+    a
 }
 
 // Whether the given sequence is a reading of the name.
@@ -201,17 +218,17 @@ fn given_reading(sheet: &[u8], name: &[u8], mapping: &[u8]) -> bool
     choices::is_reading(name, mapping, &follow, &stops, &letters)
 }
 
-// Whether the name is in the language.
+// Whether the name is in the language. There is no mapping, so no 31: the name stands in for it, and is no shorter than itself.
 pub fn accept(sheet: &[u8], name: &[u8], work: &mut [u8]) -> Answer
     ensures { λ r. ⌜ AcceptCall (now (sheet .entry)) (now (name .entry)) (now (work .entry)) (endOf r [] (now (work .exit))) ⌝ }
 {
-    let t = accept_test(sheet, name, work);
+    let t = call_test(sheet, name, name, work);
     if let Test::Refused(a) = t {
         return a;
     }
-    let found = in_language(sheet, name, work);
+    let inside = in_language(sheet, name, work);
     wipe_rows(work, name);
-    if found { Answer::Done } else { Answer::NotSo }
+    if inside { Answer::Done } else { Answer::NotSo }
 }
 
 // The first reading of the name.
@@ -219,7 +236,7 @@ pub fn first(sheet: &[u8], name: &[u8], mapping: &mut [u8], work: &mut [u8]) -> 
     ensures { λ r. ⌜ FirstCall (now (sheet .entry)) (now (name .entry)) (now (mapping .entry)) (now (work .entry)) (endOf r (now (mapping .exit)) (now (work .exit))) ⌝ }
 {
     wipe_all(mapping);
-    let t = mapping_test(sheet, name, mapping, work);
+    let t = call_test(sheet, name, mapping, work);
     if let Test::Refused(a) = t {
         return a;
     }
@@ -232,21 +249,22 @@ pub fn first(sheet: &[u8], name: &[u8], mapping: &mut [u8], work: &mut [u8]) -> 
 pub fn next(sheet: &[u8], name: &[u8], mapping: &mut [u8], work: &mut [u8]) -> Answer
     ensures { λ r. ⌜ NextCall (now (sheet .entry)) (now (name .entry)) (now (mapping .entry)) (now (work .entry)) (endOf r (now (mapping .exit)) (now (work .exit))) ⌝ }
 {
-    let t = mapping_test(sheet, name, mapping, work);
+    let t = call_test(sheet, name, mapping, work);
     if let Test::Refused(a) = t {
-        wipe_all(mapping);
-        return a;
+        return refuse(mapping, a);
     }
     let s = next_reading(sheet, name, mapping, work);
     wipe_rows(work, name);
-    settle(mapping, name.len(), s)
+    let kept = kept_by(s, name.len());
+    wipe_all(&mut mapping[kept..]);
+    answer_of(s)
 }
 
 // Whether the given sequence is a reading of the name.
 pub fn check(sheet: &[u8], name: &[u8], mapping: &[u8], work: &mut [u8]) -> Answer
     ensures { λ r. ⌜ CheckCall (now (sheet .entry)) (now (name .entry)) (now (mapping .entry)) (now (work .entry)) (endOf r (now (mapping .entry)) (now (work .exit))) ⌝ }
 {
-    let t = mapping_test(sheet, name, mapping, work);
+    let t = call_test(sheet, name, mapping, work);
     if let Test::Refused(a) = t {
         return a;
     }
