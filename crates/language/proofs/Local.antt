@@ -1,12 +1,12 @@
 -- THE LOCAL THEOREM: a tree whose leaves are numbered denotes exactly the sequences that are right locally.
-use mathlib.Core.Path.{_≡_, refl, ap, sym, _∙_}
-use mathlib.Core.Logic.{_↔_, _⊎_, inl, inr}
-use mathlib.Core.List.{List, [], _∷_, _++_, append-assoc}
-use Prim.Native.Nat.{ℕ, suc, _+_, _≤_, _<_}
+use mathlib.Core.Path.{_≡_, refl, ap}
+use mathlib.Core.Logic.{_↔_, inl, inr}
+use mathlib.Core.List.{List, [], _∷_, _++_}
+use Prim.Native.Nat.{ℕ, _+_, _≤_}
 use native.Mathlib.Omega.{arith}
-use Rattle.language.specs.Tree.{Tree, leaf, empty, cat, alt, star, Denotes, one, nil, both, left, right, none, more, number, size}
+use Rattle.language.specs.Tree.{Tree, leaf, empty, cat, alt, star, one, nil, both, left, right, none, more, number, size}
 use Rattle.language.specs.Reading.{Positions}
-use Rattle.language.specs.Local.{Nullable, First, Last, Follow, After, Local, Numbered, In}
+use Rattle.language.specs.Local.{First, Last, Follow, After, Local, Numbered, In}
 
 -- what `number` makes is numbered
 pub numbered : {A : Type 0} (t : Tree A) (lo : ℕ) → Numbered lo (lo + size t) (number lo t)

@@ -1,15 +1,17 @@
--- The literals of tokens are bytes that may be written, and a repeat's first number is at most its second.
-use mathlib.Core.Path.{_≡_, refl, ap, sym, _∙_}
-use mathlib.Core.Bool.{Bool, true, false, true≢false, _&&_, _||_}
+-- The literals of tokens are bytes that may be written, a repeat's first number is at most its second, and a fault is 11 or 19.
+use mathlib.Core.Path.{_≡_, refl}
+use mathlib.Core.Logic.{_⊎_, inl, inr}
+use mathlib.Core.Bool.{Bool, true, false, _&&_, _||_}
 use mathlib.Core.List.{List, [], _∷_}
-use Prim.Native.Nat.{ℕ, zero, suc, _+_, _≤_, _<_}
+use Prim.Native.Nat.{ℕ, zero, suc, _+_, _≤_}
 use native.Mathlib.Omega.{arith}
-use lib.Dec.{eqb, leb, ltb}
-use lib.ListN.{drop, getD}
+use lib.Dec.{eqb, leb}
+use lib.ListN.{drop}
 use borrow.Author.Tests.{leb-true, eqb-true}
 use Rattle.rules.specs.Limits.{outside}
+use Rattle.rules.specs.Numbers.{strangeByte, strangeRepeat}
 use Rattle.lexer.specs.Bytes.{bar, asterisk, leftParenthesis, rightParenthesis, backslash, leftBrace, rightBrace, comma, isMark}
-use Rattle.lexer.specs.Tokens.{choose, Token, aLiteral, aBar, aStar, anOpen, aClose, aFault, Placed, placed, markAt, starts, Number, digits, noNumber, numberAt, Repeat, noRepeat, badRepeat, repeat, closed, counted, repeatAt, One, tok, wrong, literalOf, escapedOf, tokenOf, first, lex, tokensFrom}
+use Rattle.lexer.specs.Tokens.{choose, Token, aLiteral, aBar, aStar, anOpen, aClose, aFault, Placed, placed, starts, Number, digits, noNumber, numberAt, Repeat, noRepeat, badRepeat, repeat, closed, counted, repeatAt, One, tok, wrong, literalOf, escapedOf, tokenOf, first, lex, tokensFrom}
 
 -- a literal is within the range of literal bytes, and repeated rightly
 abbrev pub Literal : Token → Type 0
@@ -18,7 +20,7 @@ Literal aBar = Unit {0}
 Literal aStar = Unit {0}
 Literal anOpen = Unit {0}
 Literal aClose = Unit {0}
-Literal (aFault k) = Unit {0}
+Literal (aFault k) = (k ≡ strangeByte) ⊎ (k ≡ strangeRepeat)
 
 abbrev pub Writable : List Placed → Type 0
 Writable [] = Unit {0}
@@ -68,33 +70,33 @@ repeat-rising s = go (starts s leftBrace)
 -- the first token
 data Right : One → Type 0 where
   token : {t : Token} {n : ℕ} → Literal t → Right (tok t n)
-  fault : {k o : ℕ} → Right (wrong k o)
+  fault : {k o : ℕ} → Literal (aFault k) → Right (wrong k o)
 
 literal-right : (b o : ℕ) (r : Repeat) → outside b ≡ false → Rising r → Right (literalOf b o r)
 literal-right b o noRepeat h r = token {t = aLiteral b 1 1} (h, omega arith)
-literal-right b o badRepeat h r = fault
+literal-right b o badRepeat h r = fault (inr refl)
 literal-right b o (repeat x y n) h r = token {t = aLiteral b x y} (h, r)
 
 escaped-right : (s : List ℕ) → Right (escapedOf s)
-escaped-right [] = fault
+escaped-right [] = fault (inl refl)
 escaped-right (b ∷ s) = go (isMark b) refl
   where
-    go : (c : Bool) → isMark b ≡ c → Right (choose c (literalOf b 1 (repeatAt s)) (wrong 11 0))
+    go : (c : Bool) → isMark b ≡ c → Right (choose c (literalOf b 1 (repeatAt s)) (wrong strangeByte 0))
     go true e = literal-right b 1 (repeatAt s) (mark-inside b e) (repeat-rising s)
-    go false e = fault
+    go false e = fault (inl refl)
 
 token-right : (b : ℕ) (s : List ℕ) → Right (tokenOf b s)
 token-right b s =
     pick (eqb b bar) (token {t = aBar} tt) (pick (eqb b asterisk) (token {t = aStar} tt)
     (pick (eqb b leftParenthesis) (token {t = anOpen} tt) (pick (eqb b rightParenthesis) (token {t = aClose} tt)
-    (pick (eqb b backslash) (escaped-right s) (pick (eqb b leftBrace || eqb b rightBrace) fault (plain (outside b) refl))))))
+    (pick (eqb b backslash) (escaped-right s) (pick (eqb b leftBrace || eqb b rightBrace) (fault (inr refl)) (plain (outside b) refl))))))
   where
     pick : (c : Bool) {x y : One} → Right x → Right y → Right (choose c x y)
     pick true p q = p
     pick false p q = q
 
-    plain : (c : Bool) → outside b ≡ c → Right (choose c (wrong 11 0) (literalOf b 0 (repeatAt s)))
-    plain true e = fault
+    plain : (c : Bool) → outside b ≡ c → Right (choose c (wrong strangeByte 0) (literalOf b 0 (repeatAt s)))
+    plain true e = fault (inl refl)
     plain false e = literal-right b 0 (repeatAt s) e (repeat-rising s)
 
 lex-right : (i skip : ℕ) (s : List ℕ) → Writable (lex i skip s)
@@ -104,7 +106,7 @@ lex-right i zero (b ∷ s) = go (tokenOf b s) (token-right b s) (λ n. lex-right
   where
     go : (o : One) → Right o → ((n : ℕ) → Writable (lex (suc i) n s)) → Writable (first i (λ n. lex (suc i) n s) o)
     go (tok t n) (token l) rest = (l, rest n)
-    go (wrong k o) fault rest = (tt, tt)
+    go (wrong k o) (fault f) rest = (f, tt)
 
 pub writable : (text : List ℕ) (at : ℕ) → Writable (tokensFrom text at)
 writable text at = lex-right at 0 (drop at text)

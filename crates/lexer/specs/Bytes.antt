@@ -1,5 +1,5 @@
 -- The bytes that an expression is written with (document 01, "Expressions as text"): the seven marks, literals, digits.
-use mathlib.Core.Bool.{Bool, true, false, _&&_, _||_}
+use mathlib.Core.Bool.{Bool, _&&_, _||_}
 use Prim.Native.Nat.{ℕ}
 use lib.Dec.{eqb, leb}
 

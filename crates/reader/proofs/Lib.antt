@@ -1,1 +1,4 @@
 pub mod Settled
+pub mod Tests
+pub mod Areas
+pub mod Ends

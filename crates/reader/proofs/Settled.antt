@@ -1,17 +1,14 @@
 -- The outcomes of the four name calls are settled: any two ends are equal, and every input has one.
 use mathlib.Core.Path.{_≡_, refl, ap, sym, _∙_}
-use mathlib.Core.Bool.{Bool, true, false}
 use mathlib.Core.Option.{Option, none, some}
-use mathlib.Core.List.{List, [], _∷_, _++_}
+use mathlib.Core.List.{List, [], _++_}
 use Prim.Native.Nat.{ℕ, _+_}
-use lib.Dec.{T}
 use Rattle.rules.specs.Limits.{wiped, filled, stored}
 use Rattle.rules.specs.Numbers.{done}
 use Rattle.rules.specs.Refusal.{firstOf}
 use Rattle.rules.proofs.Refusal.{some-eq, front-part, settled, ends}
 use Rattle.language.specs.Tree.{size}
-use Rattle.language.specs.Reading.{Pattern, Language, Reading}
-use Rattle.language.specs.Order.{FirstReading, NextReading}
+use Rattle.language.specs.Reading.{Pattern, Reading}
 use Rattle.language.specs.Search.{accepts, isReading, nextReading}
 use Rattle.language.specs.Local.{Numbered}
 use Rattle.language.proofs.Order.{least-unique}

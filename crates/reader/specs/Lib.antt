@@ -1,2 +1,4 @@
 pub mod Refusals
 pub mod Outcome
+pub mod Answer
+pub mod Made

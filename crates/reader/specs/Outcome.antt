@@ -1,6 +1,6 @@
 -- What the four name calls answer and leave: all that was lent at entry against number, second number, mapping and work area at the end.
 use mathlib.Core.Path.{_≡_}
-use mathlib.Core.Option.{Option, some}
+use mathlib.Core.Option.{some}
 use mathlib.Core.List.{List, [], _++_}
 use Prim.Native.Nat.{ℕ}
 use lib.ListN.{length, drop, replicate}

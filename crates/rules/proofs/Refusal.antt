@@ -32,6 +32,25 @@ pub not-because : {R : Type 0} (b : Bool) (k : R) → because b k ≡ none → b
 not-because true k e = no-some (sym e)
 not-because false k e = refl
 
+-- what holds of all that the grounds may refuse with holds of what the first refuses with
+module _ {R : Type 0} (Q : R → Type 0) where
+  abbrev pub Gives : Option R → Type 0
+  Gives none = Unit {0}
+  Gives (some k) = Q k
+
+  abbrev pub AllGive : List (Option R) → Type 0
+  AllGive [] = Unit {0}
+  AllGive (g ∷ gs) = Gives g × AllGive gs
+
+  pub because-gives : (b : Bool) (k : R) → Q k → Gives (because b k)
+  because-gives true k q = q
+  because-gives false k q = tt
+
+  pub first-gives : (gs : List (Option R)) → AllGive gs → Gives (firstOf gs)
+  first-gives [] a = tt
+  first-gives (some k ∷ gs) (q, a) = q
+  first-gives (none ∷ gs) (q, a) = first-gives gs a
+
 -- grounds that come first decide first
 pub first-part : {R : Type 0} (gs hs : List (Option R)) (k : R) → firstOf gs ≡ some k → firstOf (gs ++ hs) ≡ some k
 first-part [] hs k e = no-some e

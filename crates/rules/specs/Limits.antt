@@ -1,6 +1,6 @@
 -- The limits and sizes that document 01 fixes, one name each, and how a reading stands in a mapping buffer.
 use mathlib.Core.Bool.{Bool, _||_}
-use mathlib.Core.List.{List, [], _++_}
+use mathlib.Core.List.{List, _++_}
 use Prim.Native.Nat.{ℕ, _+_, _*_, _-_}
 use lib.Dec.{ltb}
 use lib.ListN.{length, take, replicate}

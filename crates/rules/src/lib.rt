@@ -13,6 +13,11 @@ pub const LOWEST_BYTE: u8 = 0x20;
 
 pub const HIGHEST_BYTE: u8 = 0x7e;
 
+pub const NAME_LIMIT: usize = 255;
+
+pub const ROW_SIZE: usize = 64;
+
+// the numbers that refuse a text
 pub const LONG_TEXT: usize = 10;
 
 pub const STRANGE_BYTE: usize = 11;

@@ -1,23 +1,22 @@
 -- What an accepted sheet has: every condition of the list one by one, and a pattern whose tree is numbered 1 to L.
-use mathlib.Core.Path.{_≡_, refl, ap, sym, _∙_}
-use mathlib.Core.Bool.{Bool, true, false, not, _||_}
+use mathlib.Core.Path.{_≡_, refl, ap}
+use mathlib.Core.Bool.{false, not, _||_}
 use mathlib.Core.Option.{Option, none, some}
-use mathlib.Core.List.{List, [], _∷_, map}
+use mathlib.Core.List.{List, [], _∷_}
 use Prim.Native.Nat.{ℕ, _+_, _<_, _≤_}
 use native.Mathlib.Omega.{arith}
-use lib.Dec.{eqb, ltb, leb}
+use lib.Dec.{eqb, ltb}
 use lib.ListN.{length}
 use borrow.Author.Tests.{ltb-false, leb-false, eqb-true, not-false}
 use Rattle.rules.specs.Limits.{leafLimit, outside}
-use Rattle.rules.specs.Refusal.{because, firstOf}
 use Rattle.rules.proofs.Refusal.{some-eq, no-some, passed, not-because}
 use Rattle.language.specs.Tree.{Tree, leaf, empty, cat, alt, star, size}
 use Rattle.language.specs.Reading.{Pattern}
 use Rattle.language.specs.Local.{Numbered}
-use Rattle.sheet.specs.Layout.{formByte, leafCount, leafBytes, nodeCount, nodeBytes, wholeLength, absent}
-use Rattle.sheet.specs.Nodes.{Node, nodeOf, highestNode, tooFew, atEnd, tooMany, leafNodes, build, only}
-use Rattle.sheet.specs.Stands.{takes, treeOf, withTree, standsFor}
-use Rattle.sheet.specs.Refusals.{anyOf, nodesOf, nodeGrounds, sheetGrounds, sheetRefusal}
+use Rattle.sheet.specs.Layout.{formByte, leafCount, leafBytes, nodeBytes, wholeLength, absent}
+use Rattle.sheet.specs.Nodes.{highestNode, tooFew, atEnd, tooMany, leafNodes, build, only}
+use Rattle.sheet.specs.Stands.{takes, withTree, standsFor}
+use Rattle.sheet.specs.Refusals.{anyOf, nodesOf, sheetGrounds, sheetRefusal}
 use Rattle.sheet.proofs.Counts.{or-false-left, or-false-right, one-tree, built-numbered}
 
 -- the conditions of the list, all passed

@@ -1,18 +1,17 @@
 -- The count of waiting subtrees is the count of the trees that are built, and these are numbered one after the other.
-use mathlib.Core.Path.{_≡_, refl, ap, sym, _∙_, subst}
+use mathlib.Core.Path.{_≡_, refl, sym, _∙_, subst}
 use mathlib.Core.Bool.{Bool, true, false, true≢false, _||_}
-use mathlib.Core.Option.{Option, none, some}
+use mathlib.Core.Option.{some}
 use mathlib.Core.List.{List, [], _∷_, map}
 use Prim.Native.Nat.{ℕ, zero, suc, _+_, _-_, _≤_, _<_}
-use native.Mathlib.Nat.{add-zero}
 use native.Mathlib.Omega.{arith}
 use lib.Dec.{ltb}
 use lib.ListN.{length}
 use borrow.Author.Tests.{lt-ltb, ltb-false}
-use Rattle.language.specs.Tree.{Tree, leaf, empty, cat, alt, star, size}
+use Rattle.language.specs.Tree.{Tree, leaf, empty, cat, alt, star}
 use Rattle.language.specs.Local.{Numbered}
 use Rattle.rules.proofs.Refusal.{some-eq, no-some}
-use Rattle.sheet.specs.Nodes.{Node, aLeaf, anEmpty, aCat, aUnion, aStar, noNode, nodeOf, highestNode, arity, tooFew, atEnd, leafNodes, build, only}
+use Rattle.sheet.specs.Nodes.{Node, aLeaf, anEmpty, aCat, aUnion, aStar, noNode, nodeOf, highestNode, tooFew, atEnd, leafNodes, build}
 use Rattle.sheet.specs.Refusals.{anyOf}
 
 pub or-false-left : (a b : Bool) → (a || b) ≡ false → a ≡ false

@@ -1,13 +1,13 @@
 -- The loops of the test of a sheet, one law for each way through a turn, and its returns.
 use mathlib.Core.Path.{_≡_, refl, ap₂, sym, _∙_}
-use mathlib.Core.Bool.{Bool, true, false, _||_, not}
+use mathlib.Core.Bool.{Bool, true, false, _||_}
 use mathlib.Core.Option.{Option, none, some}
-use mathlib.Core.List.{List, [], _∷_, map}
+use mathlib.Core.List.{List, map}
 use Prim.Native.Nat.{ℕ, zero, suc, _+_, _-_, _<_, _≤_}
 use native.Mathlib.Numerals.{add-one}
 use native.Mathlib.Nat.{add-zero, add-assoc}
 use native.Mathlib.Omega.{arith}
-use lib.Dec.{eqb, ltb, leb}
+use lib.Dec.{ltb}
 use lib.ListN.{length, getD, take, drop, length-drop, drop-of-length-le}
 use lib.Seq.{drop-cons, take-all}
 use borrow.Author.Tests.{lt-ltb, le-ltb, lt-leb, le-leb, eq-eqb, ne-eqb}
@@ -15,7 +15,7 @@ use Rattle.rules.specs.Limits.{leafLimit, waitingLimit, outside}
 use Rattle.rules.specs.Numbers.{otherForm, otherLength, manyLiterals, strangeEntry, fewWaiting, notOneLeft, manyWaiting, otherLeaves}
 use Rattle.rules.specs.Refusal.{firstOf}
 use Rattle.sheet.specs.Layout.{formByte, leafCount, leafBytes, nodeCount, nodeBytes}
-use Rattle.sheet.specs.Nodes.{Node, aLeaf, anEmpty, aCat, aUnion, aStar, noNode, nodeOf, highestNode, arity, isLeaf, afterNode, tooFew, atEnd, tooMany, leafNodes}
+use Rattle.sheet.specs.Nodes.{Node, aLeaf, anEmpty, aCat, aUnion, aStar, noNode, nodeOf, highestNode, arity, isLeaf, tooFew, atEnd, tooMany, leafNodes}
 use Rattle.sheet.specs.Refusals.{anyOf, nodesOf, nodeGrounds, sheetRefusal}
 
 -- ANY OF THE BYTES

@@ -1,24 +1,23 @@
 -- A text that is not refused: its tree has the tokens' leaves and is within the limits, so its sheet is accepted and stands for that tree.
 use mathlib.Core.Path.{_≡_, refl, ap, sym, _∙_}
-use mathlib.Core.Bool.{Bool, true, false, true≢false, _||_}
+use mathlib.Core.Bool.{Bool, true, false}
 use mathlib.Core.Option.{Option, none, some}
 use mathlib.Core.List.{List, [], _∷_, _++_, append-assoc, append-nil}
-use Prim.Native.Nat.{ℕ, zero, suc, _+_, _-_, _<_, _≤_}
+use Prim.Native.Nat.{ℕ, zero, suc, _+_, _-_, _≤_}
 use native.Mathlib.Omega.{arith}
 use lib.Dec.{ltb}
 use lib.ListN.{length, replicate, length-append, length-replicate}
 use borrow.Author.Tests.{ltb-false}
-use Rattle.rules.specs.Limits.{textLimit, openLimit, leafLimit, nodeLimit, outside}
+use Rattle.rules.specs.Limits.{openLimit, leafLimit, nodeLimit, outside}
 use Rattle.rules.specs.Numbers.{manyLeaves}
-use Rattle.rules.specs.Refusal.{because, firstOf}
 use Rattle.rules.proofs.Refusal.{no-some, passed, not-because}
-use Rattle.language.specs.Tree.{Tree, leaf, empty, cat, alt, star, size}
-use Rattle.lexer.specs.Tokens.{choose, Token, aLiteral, aBar, aStar, anOpen, aClose, aFault, Placed, placed, tokensFrom}
+use Rattle.language.specs.Tree.{Tree, leaf, empty, cat, alt, size}
+use Rattle.lexer.specs.Tokens.{choose, aBar, aStar, aClose, Placed, placed, tokensFrom}
 use Rattle.lexer.proofs.Literals.{Writable, writable}
 use Rattle.sheet.specs.Make.{leaves, postorder, sheetOf}
 use Rattle.sheet.specs.Refusals.{anyOf, sheetRefusal}
 use Rattle.sheet.proofs.Own.{length-leaves, own-accepted, any-append}
-use Rattle.text.specs.Grammar.{catFrom, catAll, copies, Level, unit, sequence, alternation, Parses, literal, void, group, starred, one, then, only, or}
+use Rattle.text.specs.Grammar.{catFrom, catAll, copies, Level, Parses, literal, void, group, starred, one, then, only, or}
 use Rattle.text.specs.Walk.{Fault, Answer, tree, fault, parse}
 use Rattle.text.specs.Refusals.{at, grammatical, leavesOf, passing, tooBig, textGrounds, textRefusal}
 use Rattle.text.specs.Outcome.{TreeOfText}

@@ -1,5 +1,5 @@
 -- The walk finds a tree exactly if the grammar has one, and so the grammar gives a token list at most one tree.
-use mathlib.Core.Path.{_≡_, refl, ap, ap₂, sym, _∙_, subst}
+use mathlib.Core.Path.{_≡_, refl, ap, ap₂, _∙_}
 use mathlib.Core.Logic.{_↔_}
 use mathlib.Core.Option.{Option, none, some}
 use mathlib.Core.List.{List, [], _∷_, _++_, append-assoc, append-nil}
@@ -10,7 +10,7 @@ use Rattle.rules.specs.Limits.{openLimit}
 use Rattle.language.specs.Tree.{Tree, empty, cat, alt, star}
 use Rattle.lexer.specs.Tokens.{aLiteral, aBar, aStar, anOpen, aClose, aFault, Placed, placed, tokensFrom}
 use Rattle.text.specs.Grammar.{copies, Level, unit, sequence, alternation, Parses, literal, void, group, starred, one, then, only, or}
-use Rattle.text.specs.Walk.{Fault, Frame, begin, going, after, value, put, Answer, tree, fault, run, parse}
+use Rattle.text.specs.Walk.{Fault, Frame, begin, going, after, value, put, tree, fault, run, parse}
 use Rattle.text.specs.Outcome.{TreeOfText}
 
 -- e: the text's length

@@ -1,5 +1,4 @@
 -- Why a text is refused, 10 to 17 and 19, in document 01's order, a line a walk; 18 comes after them and asks for the sheet's length.
-use mathlib.Core.Bool.{Bool, true, false}
 use mathlib.Core.Option.{Option, none, some}
 use mathlib.Core.List.{List, [], _∷_}
 use Prim.Native.Nat.{ℕ, _+_}

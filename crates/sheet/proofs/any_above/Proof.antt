@@ -5,13 +5,11 @@ use mathlib.Core.Path.{_≡_, refl, sym, _∙_}
 use Prim.Native.Nat.{_≤_, _-_}
 use native.Mathlib.Omega.{arith}
 use lib.Dec.{ltb}
-use lib.ListN.{length, drop, getD}
+use lib.ListN.{length, drop}
 use Rattle.sheet.specs.Refusals.{anyOf}
 use Rattle.sheet.proofs.Tests.{any-here, any-turn, any-end}
 use Rattle.sheet.proofs.any_above.Statement.{statement}
 use Rattle.sheet.proofs.any_above.Tie as tie
-use Rattle.sheet.proofs.any_above.Reads as reads
-use Rattle.sheet.proofs.any_above.Lts as lts
 
 abbrev Inv-loop : tie.InvT-loop
 Inv-loop nodes i₀ i = (i ≤ length nodes) × (anyOf (ltb highestNode) (drop i nodes) ≡ anyOf (ltb highestNode) nodes)
@@ -19,33 +17,34 @@ Inv-loop nodes i₀ i = (i ≤ length nodes) × (anyOf (ltb highestNode) (drop i
 abbrev μ-loop : tie.MeasureT-loop
 μ-loop nodes i₀ i = length nodes - i
 
--- src/lib.rt:58:5
 loop-holds : tie.Need-loop-holds Inv-loop μ-loop
 loop-holds c = (omega arith, refl)
 
--- src/lib.rt:59:27
 shared-slice-read-if1 : tie.Need-shared-slice-read-if1 Inv-loop μ-loop
 shared-slice-read-if1 c = search needs
 
--- src/lib.rt:60:13
 returns : tie.Need-returns Inv-loop μ-loop
-returns c = sym (any-here (ltb highestNode) ((c .before .before .before .before .args) .nodes .now) ((c .before .before .before .loop) .i) (omega arith) (lt-ltb highestNode _ ((c .if1) .taken))) ∙ (c .before .before .before .loop) .inv .1
+returns c =
+    let loop = c .before .before .before .loop in
+    let args = c .before .before .before .before .args in
+    sym (any-here (ltb highestNode) (args .nodes .now) (loop .i) (omega arith) (lt-ltb highestNode _ ((c .if1) .taken))) ∙ loop .inv .1
 
--- src/lib.rt:62:9
 add-i : tie.Need-add-i Inv-loop μ-loop
 add-i c = search needs
 
--- src/lib.rt:58:5
 loop-less : tie.Need-loop-less Inv-loop μ-loop
 loop-less c = search needs
 
--- src/lib.rt:58:5
 loop-again : tie.Need-loop-again Inv-loop μ-loop
-loop-again c = (omega arith, sym (any-turn (ltb highestNode) ((c .before .before .before .before .args) .nodes .now) ((c .before .before .before .loop) .i) (omega arith) (le-ltb highestNode _ ((c .if1) .left))) ∙ (c .before .before .before .loop) .inv .1)
+loop-again c =
+    let loop = c .before .before .before .loop in
+    let args = c .before .before .before .before .args in
+    (omega arith, sym (any-turn (ltb highestNode) (args .nodes .now) (loop .i) (omega arith) (le-ltb highestNode _ ((c .if1) .left))) ∙ loop .inv .1)
 
--- src/lib.rt:54:1
 returns-2 : tie.Need-returns-2 Inv-loop μ-loop
-returns-2 c = sym (any-end (ltb highestNode) ((c .before .before .args) .nodes .now) ((c .before .loop) .i) (omega arith)) ∙ (c .before .loop) .inv .1
+returns-2 c =
+    let args = c .before .before .args in
+    sym (any-end (ltb highestNode) (args .nodes .now) ((c .before .loop) .i) (omega arith)) ∙ (c .before .loop) .inv .1
 
 pub any-above-spec : {M : Type 1} → statement M
 any-above-spec =

@@ -1,19 +1,13 @@
-use borrow.Author.Needs.{needs}
 use Rattle.sheet.proofs.Tests.{arity-none, arity-two, arity-one}
 use Rattle.sheet.proofs.arity_of.Statement.{statement}
 use Rattle.sheet.proofs.arity_of.Tie as tie
-use Rattle.sheet.proofs.arity_of.Reads as reads
-use Rattle.sheet.proofs.arity_of.Lts as lts
 
--- src/lib.rt:72:9
 returns : tie.Need-returns
 returns c = arity-none _ ((c .if1) .taken)
 
--- src/lib.rt:75:9
 returns-2 : tie.Need-returns-2
 returns-2 c = arity-two _ ((c .before .if1) .left) ((c .if2) .taken)
 
--- src/lib.rt:68:1
 returns-3 : tie.Need-returns-3
 returns-3 c = arity-one _ ((c .if2) .left)
 

@@ -1,15 +1,10 @@
-use borrow.Author.Needs.{needs}
 use Rattle.sheet.proofs.Tests.{leaf-zero, leaf-other}
 use Rattle.sheet.proofs.leaf_of.Statement.{statement}
 use Rattle.sheet.proofs.leaf_of.Tie as tie
-use Rattle.sheet.proofs.leaf_of.Reads as reads
-use Rattle.sheet.proofs.leaf_of.Lts as lts
 
--- src/lib.rt:85:9
 returns : tie.Need-returns
 returns c = leaf-zero _ ((c .if1) .taken)
 
--- src/lib.rt:81:1
 returns-2 : tie.Need-returns-2
 returns-2 c = leaf-other _ ((c .if1) .left)
 

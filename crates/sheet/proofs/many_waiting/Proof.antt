@@ -1,15 +1,10 @@
-use borrow.Author.Needs.{needs}
 use mathlib.Core.Path.{refl}
 use Rattle.sheet.proofs.many_waiting.Statement.{statement}
 use Rattle.sheet.proofs.many_waiting.Tie as tie
-use Rattle.sheet.proofs.many_waiting.Reads as reads
-use Rattle.sheet.proofs.many_waiting.Lts as lts
 
--- src/lib.rt:95:9
 returns : tie.Need-returns
 returns c = rw ((c .if1) .taken) refl
 
--- src/lib.rt:91:1
 returns-2 : tie.Need-returns-2
 returns-2 c = rw ((c .if1) .left) refl
 

@@ -5,11 +5,11 @@ use Rattle.text_cases.proofs.dump.Statement.{statement}
 use Rattle.text_cases.proofs.dump.Tie as tie
 
 abbrev Inv-loop : tie.InvT-loop
-Inv-loop bytes i₀ t3 t4 i =
+Inv-loop bytes i₀ t3 i =
     Unit {0}
 
 abbrev μ-loop : tie.MeasureT-loop
-μ-loop bytes i₀ t3 t4 i =
+μ-loop bytes i₀ t3 i =
     length bytes - i
 
 loop-holds : tie.Need-loop-holds Inv-loop μ-loop
@@ -39,12 +39,6 @@ loop-less c = search needs
 loop-again : tie.Need-loop-again Inv-loop μ-loop
 loop-again c = search needs
 
-slice-aggregate-say-2 : tie.Need-slice-aggregate-say-2 Inv-loop μ-loop
-slice-aggregate-say-2 c = search needs
-
-say-requires-2 : tie.Need-say-requires-2 Inv-loop μ-loop
-say-requires-2 c κs = search needs
-
 returns : tie.Need-returns Inv-loop μ-loop
 returns c = search needs
 
@@ -63,6 +57,4 @@ dump-spec =
     add-i
     loop-less
     loop-again
-    slice-aggregate-say-2
-    say-requires-2
     returns)

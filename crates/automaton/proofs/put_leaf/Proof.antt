@@ -1,0 +1,24 @@
+use borrow.Author.Needs.{needs}
+use native.Mathlib.Omega.{arith}
+use Rattle.automaton.proofs.Steps.{replaced, leaf-law}
+use Rattle.automaton.proofs.put_leaf.Statement.{statement}
+use Rattle.automaton.proofs.put_leaf.Tie as tie
+
+single-requires : tie.Need-single-requires
+single-requires c κs = search needs
+
+single-requires-2 : tie.Need-single-requires-2
+single-requires-2 c κs = search needs
+
+same-length : tie.Need-same-length
+same-length c = search needs
+
+same-length-2 : tie.Need-same-length-2
+same-length-2 c = search needs
+
+returns : tie.Need-returns
+returns c = leaf-law (c .before .before .before .before .before .before .before .before .before .before .args .firsts .now) (c .before .before .before .before .before .before .before .before .before .before .args .stops .now) (c .before .before .before .before .before .before .single .last .0) (c .before .before .single2 .last .0) (c .before .before .before .before .before .before .before .before .before .before .args .k) (c .before .before .before .before .before .before .before .before .before .before .args .p) (omega arith) (replaced (λ p x l. c .before .before .before .before .before .before .single .ensures p x)) (replaced (λ p x l. c .before .before .single2 .ensures p x))
+
+pub put-leaf-spec : {M : Type 1} → statement M
+put-leaf-spec =
+    tie.close (tie.spec single-requires single-requires-2 same-length same-length-2 returns)

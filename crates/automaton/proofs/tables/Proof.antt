@@ -1,0 +1,64 @@
+use borrow.Author.Needs.{needs}
+use native.Mathlib.Omega.{arith}
+use Rattle.automaton.proofs.Filled.{finished}
+use Rattle.automaton.proofs.tables.Statement.{statement}
+use Rattle.automaton.proofs.tables.Tie as tie
+
+slice-aggregate-walk : tie.Need-slice-aggregate-walk
+slice-aggregate-walk c = search needs
+
+slice-aggregate-walk-2 : tie.Need-slice-aggregate-walk-2
+slice-aggregate-walk-2 c = search needs
+
+walk-requires : tie.Need-walk-requires
+walk-requires c κs = ((c .before .before .before .before .before .before .before .pre .0 .0, c .before .before .before .before .before .before .before .pre .0 .1), search needs)
+
+slice-aggregate-copy-set : tie.Need-slice-aggregate-copy-set
+slice-aggregate-copy-set c = search needs
+
+copy-set-requires : tie.Need-copy-set-requires
+copy-set-requires c κs = search needs
+
+slice-aggregate-copy-set-2 : tie.Need-slice-aggregate-copy-set-2
+slice-aggregate-copy-set-2 c = search needs
+
+copy-set-requires-2 : tie.Need-copy-set-requires-2
+copy-set-requires-2 c κs = search needs
+
+put-letters-requires : tie.Need-put-letters-requires
+put-letters-requires c κs = (c .before .before .before .before .before .before .before .before .before .before .before .before .before .before .before .before .before .before .before .before .before .before .before .pre .0 .0, c .before .before .before .before .before .before .before .before .before .before .before .before .before .before .before .before .before .before .before .before .before .before .before .pre .0 .2, search needs)
+
+same-length : tie.Need-same-length
+same-length c = search needs
+
+same-length-2 : tie.Need-same-length-2
+same-length-2 c = search needs
+
+same-length-3 : tie.Need-same-length-3
+same-length-3 c = search needs
+
+returns : tie.Need-returns
+returns c =
+    let g = c .before .before .before .before .before .before .before .before .before .before .before .before .before .before .before .before .before .before .before .before .before .before .before .before .before .before .args in
+    let w = c .before .before .before .before .before .before .before .before .before .before .before .before .before .before .before .before .before .before .walk in
+    let a = c .before .before .before .before .before .before .before .before .before .before .before .copy-set in
+    let b = c .before .before .before .before .before .before .copy-set2 in
+    let l = c .before .before .put-letters in
+    finished (g .sheet .now) (w .last .1 .0) (a .last .0) (w .last .1 .1 .0) (w .last .1 .1 .1 .0) (g .stop .now) (b .last .0) (l .last .1 .0) (c .before .before .before .before .before .before .before .before .before .before .before .before .before .before .before .before .before .before .before .before .before .before .before .before .before .before .pre .0 .0) (w .ensures) (a .ensures) (b .ensures) (l .ensures)
+
+pub tables-spec : {M : Type 1} → statement M
+tables-spec =
+    tie.close
+    (tie.spec
+    slice-aggregate-walk
+    slice-aggregate-walk-2
+    walk-requires
+    slice-aggregate-copy-set
+    copy-set-requires
+    slice-aggregate-copy-set-2
+    copy-set-requires-2
+    put-letters-requires
+    same-length
+    same-length-2
+    same-length-3
+    returns)

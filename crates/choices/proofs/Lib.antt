@@ -1,0 +1,5 @@
+pub mod Entries
+pub mod Picks
+pub mod Along
+pub mod Checked
+pub mod Onward

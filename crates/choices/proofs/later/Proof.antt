@@ -1,0 +1,60 @@
+use borrow.Author.Needs.{needs}
+use Rattle.choices.proofs.Picks.{least-same, least-below}
+use Rattle.rows.proofs.Parts.{rest-of}
+use Rattle.rows.specs.Rows.{rowAt}
+use Rattle.bits.specs.Sets.{has, rowHas}
+use Rattle.rules.specs.Limits.{rowSize}
+use Prim.Native.Nat.{ℕ, _*_}
+use mathlib.Core.Path.{_≡_, refl, _∙_}
+use Rattle.choices.proofs.later.Statement.{statement}
+use Rattle.choices.proofs.later.Tie as tie
+
+mul-at : tie.Need-mul-at
+mul-at c = search needs
+
+sub-load-row : tie.Need-sub-load-row
+sub-load-row c = search needs
+
+part-load-row-start : tie.Need-part-load-row-start
+part-load-row-start c = search needs
+
+part-load-row-end : tie.Need-part-load-row-end
+part-load-row-end c = search needs
+
+slice-aggregate-load-row : tie.Need-slice-aggregate-load-row
+slice-aggregate-load-row c = search needs
+
+load-row-requires : tie.Need-load-row-requires
+load-row-requires c κs = search needs
+
+slice-aggregate-least-from : tie.Need-slice-aggregate-least-from
+slice-aggregate-least-from c = search needs
+
+add-least-from : tie.Need-add-least-from
+add-least-from c = search needs
+
+least-from-requires : tie.Need-least-from-requires
+least-from-requires c κs = search needs
+
+returns : tie.Need-returns
+returns c =
+    let g = c .before .before .before .before .before .before .before .before .before .args in
+    let a = c .before .before .before .before .load-row in
+    let r = c .least-from in
+    let e : (x : ℕ) → has (a .last .1 .0) 0 x ≡ rowHas (rowAt (g .work .now) (g .i .0)) x = λ x. a .ensures x ∙ rw (rest-of (g .work .now) (rowSize * g .i .0)) refl in
+    (least-same (has (a .last .1 .0) 0) _ _ _ e (r .ensures), least-below (a .last .1 .0) 0 _ _ (r .ensures))
+
+pub later-spec : {M : Type 1} → statement M
+later-spec =
+    tie.close
+    (tie.spec
+    mul-at
+    sub-load-row
+    part-load-row-start
+    part-load-row-end
+    slice-aggregate-load-row
+    load-row-requires
+    slice-aggregate-least-from
+    add-least-from
+    least-from-requires
+    returns)

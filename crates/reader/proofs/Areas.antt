@@ -1,0 +1,51 @@
+-- What the mapping and the work area hold at the end of a call.
+use mathlib.Core.Path.{_≡_, refl, ap, sym, _∙_}
+use mathlib.Core.List.{List, _++_, append-nil}
+use Prim.Native.Nat.{ℕ, zero, suc, _+_, _*_, _-_, _≤_}
+use native.Mathlib.Omega.{arith}
+use lib.ListN.{length, take, drop, replicate, length-drop, take-append-drop, drop-of-length-le}
+use lib.Seq.{drop-drop, drop-length, length-take-le}
+use Rattle.rules.specs.Limits.{rowSize, areaFor, wiped, filled}
+use Rattle.rows.specs.Rows.{rowAt}
+use Rattle.reader.specs.Outcome.{cleared}
+
+-- a buffer of which all is wiped
+pub wiped-whole : (xs ys : List ℕ) → ys ≡ replicate (length xs) 0 ++ drop (length xs) xs → ys ≡ wiped xs
+wiped-whole xs ys e = e ∙ rw (drop-length xs, append-nil) refl
+
+-- the rows were filled and then wiped
+pub cleared-whole : (name work filled end : List ℕ) → rowAt filled (length name) ≡ rowAt work (length name) → end ≡ cleared name filled → end ≡ cleared name work
+cleared-whole name work filled end e f =
+    let d : areaFor name ≡ rowSize * length name + rowSize = omega arith in
+    f ∙ rw (d, ← drop-drop rowSize (rowSize * length name) filled, ← drop-drop rowSize (rowSize * length name) work, e) refl
+
+drop-zeros : (n m : ℕ) → drop n (replicate {A = ℕ} m 0) ≡ replicate (m - n) 0
+drop-zeros zero m = let e : m - 0 ≡ m = omega arith in rw e refl
+drop-zeros (suc n) zero = let e : 0 - suc n ≡ 0 = omega arith in rw e refl
+drop-zeros (suc n) (suc m) = let e : suc m - suc n ≡ m - n = omega arith in rw e (drop-zeros n m)
+
+-- a reading and zeros
+pub filled-whole : (n : ℕ) (mapping reading end : List ℕ) → n ≤ length mapping → length end ≡ length mapping → take n end ≡ reading → drop n end ≡ replicate (length mapping - n) 0
+    → end ≡ filled mapping reading
+filled-whole n mapping reading end h l t d =
+    let e : length reading ≡ n = ap length (sym t) ∙ length-take-le n end (omega arith) in
+    sym (take-append-drop n end) ∙ rw (t, d, e) refl
+
+-- written into a wiped mapping
+pub wiped-after : (n : ℕ) (mapping end : List ℕ) → drop n end ≡ drop n (wiped mapping) → drop n end ≡ replicate (length mapping - n) 0
+wiped-after n mapping end e = e ∙ drop-zeros n (length mapping)
+
+-- the rest of a mapping `&mut mapping[n..]` was lent, and came back as zeros
+module _ (n : ℕ) (mapping ys : List ℕ) (fits : n ≤ length mapping) (e : ys ≡ wiped (take (length mapping - n) (drop n mapping))) where
+  abbrev pub back : List ℕ
+  back = take n mapping ++ (ys ++ drop (length mapping - n) (drop n mapping))
+
+  zeros : ys ≡ replicate (length mapping - n) 0
+  zeros = let l : length (take (length mapping - n) (drop n mapping)) ≡ length mapping - n = length-take-le (length mapping - n) (drop n mapping) (omega (arith, length-drop n mapping)) in e ∙ rw l refl
+
+  back-is : back ≡ take n mapping ++ ys
+  back-is = rw (drop-of-length-le (drop n mapping) {i = length mapping - n} (omega (arith, length-drop n mapping)), append-nil) refl
+
+  -- what stands in front, and zeros after it
+  pub rest-wiped : back ≡ filled mapping (take n mapping)
+  rest-wiped = back-is ∙ rw (zeros, length-take-le n mapping fits) refl

@@ -1,0 +1,68 @@
+use borrow.Author.Needs.{needs}
+use Rattle.automaton.specs.Tables.{followWords, letterWords}
+use Rattle.bits.proofs.Stores.{zeros-empty}
+use native.Mathlib.Omega.{arith}
+use Rattle.reader.proofs.in_language.Statement.{statement}
+use Rattle.reader.proofs.in_language.Tie as tie
+
+slice-aggregate-tables : tie.Need-slice-aggregate-tables
+slice-aggregate-tables c = search needs
+
+slice-aggregate-tables-2 : tie.Need-slice-aggregate-tables-2
+slice-aggregate-tables-2 c = search needs
+
+slice-aggregate-tables-3 : tie.Need-slice-aggregate-tables-3
+slice-aggregate-tables-3 c = search needs
+
+tables-requires : tie.Need-tables-requires
+tables-requires c κs = ((c .before .before .before .before .before .before .pre .0, zeros-empty followWords, zeros-empty letterWords), (omega arith, omega arith, omega arith))
+
+slice-aggregate-fill : tie.Need-slice-aggregate-fill
+slice-aggregate-fill c = search needs
+
+slice-aggregate-fill-2 : tie.Need-slice-aggregate-fill-2
+slice-aggregate-fill-2 c = search needs
+
+slice-aggregate-fill-3 : tie.Need-slice-aggregate-fill-3
+slice-aggregate-fill-3 c = search needs
+
+fill-requires : tie.Need-fill-requires
+fill-requires c κs = search needs
+
+slice-aggregate-begins : tie.Need-slice-aggregate-begins
+slice-aggregate-begins c = search needs
+
+slice-aggregate-begins-2 : tie.Need-slice-aggregate-begins-2
+slice-aggregate-begins-2 c = search needs
+
+begins-requires : tie.Need-begins-requires
+begins-requires c κs = search needs
+
+same-length : tie.Need-same-length
+same-length c = search needs
+
+returns : tie.Need-returns
+returns c = (
+  λ P x.
+      let t = c .before .before .before .before .before .before .before .before .before .before .before .before .before .before .tables .ensures P x in
+      c .begins .ensures P (t .steps) (t .ends) (c .before .before .before .before .before .before .fill .ensures .0 P (t .steps) (t .ends) (t .letter)),
+  c .before .before .before .before .before .before .fill .ensures .1,
+)
+
+pub in-language-spec : {M : Type 1} → statement M
+in-language-spec =
+    tie.close
+    (tie.spec
+    slice-aggregate-tables
+    slice-aggregate-tables-2
+    slice-aggregate-tables-3
+    tables-requires
+    slice-aggregate-fill
+    slice-aggregate-fill-2
+    slice-aggregate-fill-3
+    fill-requires
+    slice-aggregate-begins
+    slice-aggregate-begins-2
+    begins-requires
+    same-length
+    returns)

@@ -1,0 +1,46 @@
+-- What the steps inside the calls come to: the tests before a search, and the searches over an accepted sheet.
+use mathlib.Core.Path.{_≡_}
+use mathlib.Core.Bool.{Bool, true, false}
+use mathlib.Core.Option.{Option, none, some}
+use mathlib.Core.List.{List}
+use Prim.Native.Nat.{ℕ}
+use lib.ListN.{length, take, drop}
+use Rattle.rules.specs.Limits.{wiped, filled}
+use Rattle.language.specs.Reading.{Pattern}
+use Rattle.language.specs.Search.{accepts, firstReading, isReading, nextReading}
+use Rattle.reader.specs.Outcome.{given}
+use Rattle.reader.specs.Answer.{numberOf}
+use Rattle.reader.specs.declared.Answer.{Answer}
+use Rattle.reader.specs.declared.Answer.the-variants.{Done, NotSo, GivenNoReading}
+use Rattle.reader.specs.declared.Test.{Test}
+use Rattle.reader.specs.declared.Test.the-variants.{Passed, Refused}
+use Rattle.reader.specs.declared.Step.{Step}
+use Rattle.reader.specs.declared.Step.the-variants.{Found, NoMore, NoReading}
+
+-- why a call is refused, if it is
+abbrev pub reasonOf : Test → Option ℕ
+reasonOf Passed = none
+reasonOf (Refused a) = some (numberOf a)
+
+-- the mapping became `after`: the first reading was written, or nothing
+abbrev pub FirstMade : Pattern → List ℕ → List ℕ → List ℕ → Bool → Type 0
+FirstMade P name mapping after true =
+    (accepts P name ≡ true) × (take (length name) after ≡ firstReading P name) × (drop (length name) after ≡ drop (length name) mapping)
+FirstMade P name mapping after false = (accepts P name ≡ false) × (after ≡ mapping)
+
+-- the given sequence became the next reading; there is none; it is no reading
+abbrev pub NextMade : Pattern → List ℕ → List ℕ → List ℕ → Step → Type 0
+NextMade P name mapping after Found = (isReading P name (given name mapping) ≡ true) × (nextReading P name (given name mapping) ≡ some (take (length name) after))
+NextMade P name mapping after NoMore = (isReading P name (given name mapping) ≡ true) × (nextReading P name (given name mapping) ≡ none)
+NextMade P name mapping after NoReading = isReading P name (given name mapping) ≡ false
+
+-- the answer for it, and what it leaves of a mapping for n entries
+abbrev pub answerOf : Step → Answer
+answerOf Found = Done
+answerOf NoMore = NotSo
+answerOf NoReading = GivenNoReading
+
+abbrev pub leftBy : Step → ℕ → List ℕ → List ℕ
+leftBy Found n mapping = filled mapping (take n mapping)
+leftBy NoMore n mapping = wiped mapping
+leftBy NoReading n mapping = wiped mapping
