@@ -1,5 +1,5 @@
 -- What the inner functions ensure: they do what the walk does, and store the postorder and the leaves of the tree that it makes.
--- The public contract cites none of this but `sheetEnd`.
+-- The public contract cites none of this.
 use mathlib.Core.Path.{_≡_}
 use mathlib.Core.Bool.{Bool, true, false}
 use mathlib.Core.Option.{Option, none, some}
