@@ -109,7 +109,7 @@ fn refuse(sheet: &mut [u8], number: usize, place: usize) -> SheetAnswer
     SheetAnswer::Refused(Refusal { number, place })
 }
 
-// 11 and 19 anywhere come before 12 to 15 anywhere.
+// 11 and 19 anywhere come before 12 to 15 anywhere. A text that the readers take has neither, so this walk is needed after a refusal only.
 fn refuse_first(text: &[u8], sheet: &mut [u8], number: usize, place: usize) -> SheetAnswer
     requires { ⌜ length (now text) ≤ textLimit ⌝ }
     ensures { λ r. ⌜ (parse (now (text .entry)) ≡ faultAt number place → SheetCall (now (text .entry)) (now (sheet .entry)) (sheetEnd r (now (sheet .exit)))) ⌝ }
