@@ -89,10 +89,11 @@ fn name_test(name: &[u8], mapping: &[u8], work: &[u8]) -> Test
     if NAME_LIMIT < name.len() {
         return Test::Refused(Answer::LongName);
     }
+    let area = ROW_SIZE * (name.len() + 1);
     if mapping.len() < name.len() {
         return Test::Refused(Answer::ShortMapping);
     }
-    if work.len() < ROW_SIZE * (name.len() + 1) {
+    if work.len() < area {
         return Test::Refused(Answer::ShortWork);
     }
     Test::Passed

@@ -1,7 +1,10 @@
 use borrow.Author.Needs.{needs}
 use Rattle.rows.proofs.Parts.{rest-of, drop-same}
 use Rattle.rows.proofs.Live.{live-step}
-use Rattle.bits.specs.Sets.{setBytes}
+use Rattle.bits.specs.Sets.{setBytes, rowHas}
+use mathlib.Core.List.{List}
+use mathlib.Core.Path.{ap, _∙_}
+use Prim.Native.Nat.{ℕ}
 use Rattle.rules.specs.Limits.{rowSize}
 use lib.ListN.{drop}
 use native.Mathlib.Omega.{arith}
@@ -52,7 +55,7 @@ returns c =
     let s = c .before .before .store-row in (
       λ P b bs f l old.
           live-step P b bs (g .follow .now) (g .letters .now) (a .last .1 .0) (k .last .0) (s .last .0) (drop rowSize (g .row .now)) (g .byte) f l
-          (rw (rest-of (g .row .now) rowSize) at (a .ensures))
+          (λ x. a .ensures x ∙ ap (λ (r : List ℕ). rowHas r x) (rest-of (g .row .now) rowSize))
           (rw (c .before .before .before .before .before .before .before .before .wide .ensures .0) at (k .ensures))
           (s .ensures .0)
           old,
