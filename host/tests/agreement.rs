@@ -2,11 +2,11 @@
 
 mod common;
 
-use common::followed;
+use common::{calls, followed};
 use satchelram_host::generate::{every, names, random::Random, sheets, texts};
 use satchelram_host::matcher::sheet::{read, Node, Tree};
 use satchelram_host::matcher::text::{sheet_of, Refusal};
-use satchelram_host::matcher::{calls, member, readings};
+use satchelram_host::matcher::{member, readings};
 use std::collections::{BTreeSet, HashMap};
 
 fn tree_of(sheet: &[u8]) -> Tree {

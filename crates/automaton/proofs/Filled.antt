@@ -1,23 +1,23 @@
 -- The table of letters, position after position, and the finished tables.
-use mathlib.Core.Path.{_≡_, refl, ap, sym, _∙_}
+use mathlib.Core.Path.{_≡_, refl, sym, _∙_}
 use mathlib.Core.Logic.{by-cases}
-use mathlib.Core.Bool.{Bool, false, cond, _||_, _&&_, and-true, and-false, or-false}
+use mathlib.Core.Bool.{cond, _||_, _&&_, and-true, and-false, or-false}
 use mathlib.Core.Option.{none, some}
 use mathlib.Core.List.{List, [], _∷_}
-use Prim.Native.Nat.{ℕ, zero, suc, _+_, _<_, _≤_}
+use Prim.Native.Nat.{ℕ, zero, suc, _+_, _<_}
 use native.Mathlib.Decide.{decLt, ℕ-discrete}
 use native.Mathlib.Omega.{arith}
 use lib.Dec.{eqb, leb, eqb·suc-zero}
 use borrow.Author.Tests.{eq-eqb, ne-eqb, le-leb, lt-leb}
 use Rattle.rules.proofs.Refusal.{some-eq}
-use Rattle.language.specs.Tree.{Tree, size}
+use Rattle.language.specs.Tree.{size}
 use Rattle.language.specs.Reading.{Pattern}
-use Rattle.language.specs.Follow.{first, follow, step, stop}
+use Rattle.language.specs.Follow.{follow, step}
 use Rattle.sheet.specs.Layout.{leafCount}
 use Rattle.sheet.specs.Refusals.{sheetRefusal}
 use Rattle.sheet.specs.Stands.{standsFor, literal}
-use Rattle.sheet.proofs.Accepted.{Conditions, conditions, Meant, accepted-meant, standing}
-use Rattle.bits.specs.Sets.{setBits, has, Empty}
+use Rattle.sheet.proofs.Accepted.{conditions, accepted-meant, standing}
+use Rattle.bits.specs.Sets.{has, Empty}
 use Rattle.automaton.specs.Tables.{Tables}
 use Rattle.automaton.specs.Walk.{State, LettersTo}
 use Rattle.automaton.proofs.Steps.{flip-eqb}

@@ -1,7 +1,7 @@
 -- The walk over the node bytes: what is left of them, and what waits.
 use mathlib.Core.Path.{_≡_, refl, ap, sym, _∙_}
 use mathlib.Core.Bool.{Bool, true, false, _||_}
-use mathlib.Core.Option.{Option, none, some}
+use mathlib.Core.Option.{none, some}
 use mathlib.Core.List.{List, [], _∷_, map}
 use Prim.Native.Nat.{ℕ, zero, suc, _+_, _-_, _<_, _≤_}
 use native.Mathlib.Numerals.{add-one}
@@ -17,8 +17,8 @@ use Rattle.sheet.specs.Layout.{leafCount}
 use Rattle.sheet.specs.Nodes.{Node, aLeaf, anEmpty, aCat, aUnion, aStar, noNode, nodeOf, build}
 use Rattle.sheet.specs.Refusals.{sheetRefusal}
 use Rattle.sheet.specs.Stands.{standsFor}
-use Rattle.sheet.proofs.Accepted.{Conditions, conditions, Meant, accepted-meant}
-use Rattle.bits.specs.Sets.{setBits, has, Empty}
+use Rattle.sheet.proofs.Accepted.{conditions, Meant, accepted-meant}
+use Rattle.bits.specs.Sets.{setBits, Empty}
 use Rattle.automaton.specs.Walk.{Held, followAll, State}
 
 -- the leaves of the waiting trees

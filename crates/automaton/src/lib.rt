@@ -10,17 +10,20 @@ ghost use Rattle.language.specs.Reading.{Pattern};
 ghost use Rattle.sheet.specs.Layout.{leafCount};
 ghost use Rattle.sheet.specs.Stands.{standsFor};
 ghost use Rattle.sheet.specs.Refusals.{sheetRefusal};
-ghost use Rattle.bits.specs.Sets.{setWords, setBits, has, Empty};
+ghost use Rattle.bits.specs.Sets.{setWords, setBits, Empty};
 ghost use Rattle.automaton.specs.Tables.{followWords, letterWords, Tables};
 ghost use Rattle.automaton.specs.Walk.{stackWords, Held, State, Reached, Closed, LettersTo};
 
-// The words of the tables: a set for each position and the start, and a set for each value of a byte.
-pub const FOLLOW_WORDS: usize = 256;
+// The values of a byte.
+const BYTE_VALUES: usize = 256;
 
-pub const LETTER_WORDS: usize = 512;
+// The words of the tables: a set for each position and the start, and a set for each value of a byte.
+pub const FOLLOW_WORDS: usize = bits::SET_WORDS * bits::SET_BITS;
+
+pub const LETTER_WORDS: usize = bits::SET_WORDS * BYTE_VALUES;
 
 // A set for each subtree that may wait.
-const STACK_WORDS: usize = 256;
+const STACK_WORDS: usize = bits::SET_WORDS * rules::WAITING_LIMIT;
 
 // The node bytes of a sheet; every other is a star.
 const LEAF: u8 = 0;
@@ -57,8 +60,9 @@ fn put_union(firsts: &mut [u64], stops: &mut [u64], k: usize)
     requires { ⌜ (stackWords ≤ length (now firsts)) × (stackWords ≤ length (now stops)) ⌝ }
     ensures { λ _. ⌜ ((r t : Tree ℕ) (ts : List (Tree ℕ)) → length ts ≡ k → Held (now (firsts .entry)) (now (stops .entry)) (t ∷ r ∷ ts) → Held (now (firsts .exit)) (now (stops .exit)) (alt r t ∷ ts)) ⌝ }
 {
-    bits::join_within(firsts, k, k + 1);
-    bits::join_within(stops, k, k + 1);
+    let right = k + 1;
+    bits::join_within(firsts, k, right);
+    bits::join_within(stops, k, right);
 }
 
 // The first positions of a concatenation: those of its right side too, if its left side may be empty.

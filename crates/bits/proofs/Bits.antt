@@ -15,6 +15,15 @@ use lib.Dec.{eqb, leb, leb·suc-suc, eqb·suc-suc, eqb·suc-zero}
 use borrow.Author.Tests.{eq-eqb, ne-eqb, le-leb, lt-leb}
 use Rattle.bits.specs.Sets.{bit}
 
+pub and-first : (a b : Bool) → (a && b) ≡ true → a ≡ true
+and-first true b e = refl
+and-first false b e = e
+
+pub and-second : (a b : Bool) → (a && b) ≡ true → b ≡ true
+and-second true b e = e
+and-second false true e = refl
+and-second false false e = e
+
 or-bits : (u v : ℕ) → u < 2 → v < 2 → eqb (bitOr u v) 1 ≡ (eqb u 1 || eqb v 1)
 or-bits zero zero _ _ = refl
 or-bits zero (suc zero) _ _ = refl
@@ -179,3 +188,7 @@ lowest (suc d) m h l = go (λ k. lowest d (m / 2) k (half-lt d m l)) (m % 2) ref
     go ih zero e = lowest-even d m (trailingZeros d (m / 2)) h e (ih (omega arith))
     go ih (suc zero) e = lowest-odd d m e
     go ih (suc (suc r)) e = absurd (omega arith)
+
+-- the same of a number that equals it
+pub lowest-at : (d m i : ℕ) → 0 < m → m < 2 ^ d → i ≡ trailingZeros d m → Lowest d m i
+lowest-at d m i h l e = rw e (lowest d m h l)

@@ -1,17 +1,18 @@
 -- A set in the bytes of a row: words as bytes, the lowest first.
 use mathlib.Core.Path.{_≡_, refl, ap, sym, _∙_}
 use mathlib.Core.Logic.{by-cases}
-use mathlib.Core.Bool.{Bool, true, false, _||_, _&&_, and-false, or-false}
+use mathlib.Core.Bool.{false, _&&_, or-false}
 use mathlib.Core.List.{List}
 use Prim.Native.Nat.{ℕ, _+_, _*_, _/_, _%_, _^_, _-_, _<_, _≤_}
-use native.Mathlib.Decide.{decLt, ℕ-discrete}
+use native.Mathlib.Decide.{decLt}
 use native.Mathlib.Omega.{arith}
 use lib.Bits.{bitOr}
 use lib.ListN.{length, getD, set, length-set}
 use lib.Seq.{getD-set-same, getD-set-other}
-use lib.Dec.{ltb, leb}
+use lib.Dec.{ltb}
 use borrow.Author.Tests.{lt-ltb, le-ltb, le-leb, lt-leb}
-use Rattle.bits.specs.Sets.{wordBits, wordBytes, byteBits, setWords, setBits, setBytes, bit, has, rowHas, WordAt}
+use Rattle.bits.specs.Sets.{wordBits, wordBytes, byteBits, setWords, setBits, bit, has, rowHas}
+use Rattle.bits.specs.Words.{WordAt}
 use Rattle.bits.proofs.Bits.{bit-or, bit-zero, bit-shl, bit-shr, bit-mod, no-bit}
 use Rattle.bits.proofs.Stores.{word-at, has-out}
 

@@ -1,17 +1,16 @@
 -- The least member of a set from a bound on: word after word, the first whose members from the bound on are not none.
-use mathlib.Core.Path.{_≡_, refl, ap, sym, _∙_}
+use mathlib.Core.Path.{_≡_, refl, sym, _∙_}
 use mathlib.Core.Logic.{by-cases}
-use mathlib.Core.Bool.{Bool, true, false, _&&_}
+use mathlib.Core.Bool.{true, false, _&&_}
 use mathlib.Core.List.{List}
 use Prim.Native.Nat.{ℕ, _+_, _*_, _/_, _%_, _^_, _-_, _<_, _≤_}
 use native.Mathlib.Decide.{decLt}
 use native.Mathlib.Omega.{arith}
-use lib.Count.{trailingZeros}
 use lib.ListN.{getD}
 use lib.Dec.{leb}
 use borrow.Author.Tests.{le-leb, lt-leb, leb-true}
-use Rattle.bits.specs.Sets.{wordBits, setWords, setBits, bit, has, LeastFrom, found, nowhere}
-use Rattle.bits.proofs.Bits.{bit-zero, bit-shl, bit-shr, Lowest, lowest}
+use Rattle.bits.specs.Sets.{wordBits, setWords, bit, has, LeastFrom, found, nowhere}
+use Rattle.bits.proofs.Bits.{and-first, and-second, bit-zero, bit-shl, bit-shr, Lowest}
 use Rattle.bits.proofs.Stores.{word-at, has-out}
 
 module _ (xs : List ℕ) (k bound : ℕ) where
@@ -50,7 +49,7 @@ module _ (xs : List ℕ) (k bound : ℕ) where
         (λ (a : ¬ (x < wordBits * i)). within x h (omega arith) ∙ rw z (bit-zero (x % wordBits)))
 
     -- the lowest bit of m
-    least-found : (t : ℕ) → Lowest wordBits m t → LeastFrom (has xs k) bound (wordBits * i + t)
+    pub least-found : (t : ℕ) → Lowest wordBits m t → LeastFrom (has xs k) bound (wordBits * i + t)
     least-found t v = found low here others
       where
         both : (leb bound (wordBits * i + t) && has xs k (wordBits * i + t)) ≡ true
@@ -58,15 +57,6 @@ module _ (xs : List ℕ) (k bound : ℕ) where
             let e : (wordBits * i + t) / wordBits ≡ i = omega (arith, v .within) in
             let n : (wordBits * i + t) % wordBits ≡ t = omega (arith, v .within) in
             sym (mask (wordBits * i + t) e) ∙ rw n (v .set)
-
-        and-first : (a b : Bool) → (a && b) ≡ true → a ≡ true
-        and-first true b e = refl
-        and-first false b e = e
-
-        and-second : (a b : Bool) → (a && b) ≡ true → b ≡ true
-        and-second true b e = e
-        and-second false true e = refl
-        and-second false false e = e
 
         low : bound ≤ wordBits * i + t
         low = leb-true bound (wordBits * i + t) (and-first (leb bound (wordBits * i + t)) (has xs k (wordBits * i + t)) both)
@@ -79,9 +69,6 @@ module _ (xs : List ℕ) (k bound : ℕ) where
             by-cases (decLt x (wordBits * i))
             (λ (a : x < wordBits * i). clear x h a)
             (λ (a : ¬ (x < wordBits * i)). within x h (omega (arith, v .within)) ∙ v .least (x % wordBits) (omega (arith, v .within)))
-
-    pub least-here : (m ≡ 0 → ⊥) → m < 2 ^ wordBits → LeastFrom (has xs k) bound (wordBits * i + trailingZeros wordBits m)
-    least-here n s = least-found (trailingZeros wordBits m) (lowest wordBits m (omega arith) s)
 
   pub least-none : (i : ℕ) → setWords ≤ i → Clear i → LeastFrom (has xs k) bound 0
   least-none i l clear =

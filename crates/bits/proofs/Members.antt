@@ -1,16 +1,17 @@
 -- Loops over the members of a word, from the lowest: what is done and what is left.
 use mathlib.Core.Path.{_≡_, refl, ap, sym, _∙_}
 use mathlib.Core.Logic.{by-cases}
-use mathlib.Core.Bool.{Bool, true, false, not, _||_, _&&_, and-true, and-false, or-false}
+use mathlib.Core.Bool.{Bool, true, false, _||_, _&&_, and-true, and-false, or-false}
 use mathlib.Core.List.{List}
-use Prim.Native.Nat.{ℕ, _+_, _*_, _/_, _%_, _^_, _-_, _<_, _≤_}
+use Prim.Native.Nat.{ℕ, _+_, _*_, _%_, _^_, _-_, _<_, _≤_}
 use native.Mathlib.Decide.{decLt, ℕ-discrete}
 use native.Mathlib.Omega.{arith}
 use lib.Bits.{bitOr, bitAnd}
-use lib.ListN.{length, getD}
+use lib.ListN.{getD}
 use lib.Dec.{eqb, ltb, leb}
 use borrow.Author.Tests.{eq-eqb, ne-eqb, le-leb, lt-leb, lt-ltb, le-ltb}
-use Rattle.bits.specs.Sets.{wordBits, setWords, setBits, bit, has, inWord}
+use Rattle.bits.specs.Sets.{wordBits, setWords, bit, has}
+use Rattle.bits.specs.Words.{inWord}
 use Rattle.bits.proofs.Bits.{bit-or, bit-zero, bit-pow, no-bit, Lowest}
 use Rattle.bits.proofs.Stores.{word-at, has-out, one-shifted}
 

@@ -1,14 +1,13 @@
 -- The count of a set's members, word after word.
 use mathlib.Core.Path.{_≡_, refl, ap, sym, _∙_}
-use mathlib.Core.Bool.{Bool, true, false, cond}
+use mathlib.Core.Bool.{Bool, cond}
 use mathlib.Core.List.{List}
-use Prim.Native.Nat.{ℕ, zero, suc, _+_, _*_, _/_, _%_, _^_, _<_, _≤_}
+use Prim.Native.Nat.{ℕ, zero, suc, _+_, _*_, _/_, _%_, _^_, _<_}
 use native.Mathlib.Omega.{arith}
 use lib.Count.{ones, ones-step}
 use lib.ListN.{getD}
 use lib.Dec.{eqb}
-use lib.Pow.{shr-lt}
-use Rattle.bits.specs.Sets.{wordBits, setWords, setBits, bit, has, countBelow, sizeOf}
+use Rattle.bits.specs.Sets.{wordBits, setWords, bit, has, countBelow, sizeOf}
 use Rattle.bits.proofs.Bits.{bit-low, bit-up, half-lt}
 use Rattle.bits.proofs.Stores.{word-at}
 

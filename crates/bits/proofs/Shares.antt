@@ -1,9 +1,9 @@
 -- Whether two sets share a member: some number below a bound passes a test, and the words of the two sets have a bit in common.
-use mathlib.Core.Path.{_≡_, refl, ap, sym, _∙_}
+use mathlib.Core.Path.{_≡_, refl, sym, _∙_}
 use mathlib.Core.Logic.{by-cases}
 use mathlib.Core.Bool.{Bool, true, false, true≢false, not, _||_, _&&_, or-comm, or-true}
 use mathlib.Core.List.{List}
-use Prim.Native.Nat.{ℕ, zero, suc, _+_, _*_, _/_, _%_, _^_, _<_, _≤_}
+use Prim.Native.Nat.{ℕ, zero, suc, _+_, _*_, _/_, _%_, _^_, _<_}
 use native.Mathlib.Decide.{decLt, ℕ-discrete}
 use native.Mathlib.Numerals.{add-one}
 use native.Mathlib.Omega.{arith}
@@ -12,7 +12,7 @@ use lib.ListN.{getD}
 use lib.Dec.{eqb}
 use borrow.Author.Tests.{eq-eqb, ne-eqb}
 use Rattle.bits.specs.Sets.{wordBits, setWords, setBits, bit, has, someBelow, share}
-use Rattle.bits.proofs.Bits.{bit-zero, bit-or, bit-and, no-bit, some-bit}
+use Rattle.bits.proofs.Bits.{and-first, and-second, bit-zero, bit-or, bit-and, no-bit, some-bit}
 use Rattle.bits.proofs.Stores.{word-at, has-below}
 
 -- ---- some number below n passes the test
@@ -39,18 +39,7 @@ some-out f (suc n) e = go (some-out f n) (f n) refl e
     go ih true d z = record { at = n; below = omega arith; passes = d }
     go ih false d z = let w = ih z in record { at = w .at; below = omega (arith, w .below); passes = w .passes }
 
-not-some : (f : ℕ → Bool) (n : ℕ) → (Witness f n → ⊥) → someBelow f n ≡ false
-not-some f n h = go (someBelow f n) refl
-  where
-    go : (t : Bool) → someBelow f n ≡ t → t ≡ false
-    go true e = absurd (h (some-out f n e))
-    go false e = refl
-
 -- ---- members in common
-
-and-both : (a b : Bool) → (a && b) ≡ true → (a ≡ true) × (b ≡ true)
-and-both true b e = (refl, e)
-and-both false b e = absurd (true≢false (sym e))
 
 pub share-in : (xs : List ℕ) (j : ℕ) (ys : List ℕ) (k q : ℕ) → has xs j q ≡ true → has ys k q ≡ true → share xs j ys k ≡ true
 unfolding share
@@ -58,7 +47,7 @@ share-in xs j ys k q a b = some-in (λ q. has xs j q && has ys k q) setBits q (h
 
 pub share-out : (xs : List ℕ) (j : ℕ) (ys : List ℕ) (k : ℕ) → share xs j ys k ≡ true → (q : ℕ) × ((has xs j q ≡ true) × (has ys k q ≡ true))
 unfolding share
-share-out xs j ys k e = let w = some-out (λ q. has xs j q && has ys k q) setBits e in (w .at, and-both (has xs j (w .at)) (has ys k (w .at)) (w .passes))
+share-out xs j ys k e = let w = some-out (λ q. has xs j q && has ys k q) setBits e in (w .at, (and-first (has xs j (w .at)) (has ys k (w .at)) (w .passes), and-second (has xs j (w .at)) (has ys k (w .at)) (w .passes)))
 
 -- ---- a walk over the words of both: what the words below i have in common
 
@@ -104,6 +93,7 @@ module _ (xs : List ℕ) (j : ℕ) (ys : List ℕ) (k : ℕ) where
           by-cases (decLt b wordBits)
           (λ (l : b < wordBits).
           let w = some-out (inBoth b) setWords (sym (h b) ∙ e) in
-          let x = and-both (has xs j (wordBits * w .at + b)) (has ys k (wordBits * w .at + b)) (sym (in-both (w .at) b (w .below) l) ∙ w .passes) in
-          share-in xs j ys k (wordBits * w .at + b) (x .0) (x .1))
+          let q : ℕ = wordBits * w .at + b in
+          let e = sym (in-both (w .at) b (w .below) l) ∙ w .passes in
+          share-in xs j ys k q (and-first (has xs j q) (has ys k q) e) (and-second (has xs j q) (has ys k q) e))
           (λ (l : ¬ (b < wordBits)). absurd (true≢false (sym e ∙ no-bit u b wordBits s (omega arith))))

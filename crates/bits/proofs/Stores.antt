@@ -14,7 +14,7 @@ use lib.Seq.{getD-set-same, getD-set-other}
 use lib.Dec.{eqb, ltb, eqb·suc-zero}
 use borrow.Author.Tests.{eq-eqb, ne-eqb, lt-ltb, le-ltb, ltb-true}
 use Rattle.bits.specs.Sets.{wordBits, setWords, setBits, bit, has, Empty}
-use Rattle.bits.proofs.Bits.{bit-or, bit-and, bit-zero, bit-pow, bit-low, bit-up, bit-test, double-low, double-up}
+use Rattle.bits.proofs.Bits.{and-first, bit-or, bit-and, bit-zero, bit-pow, bit-up, double-low, double-up}
 
 -- ---- a set by its words
 
@@ -29,10 +29,6 @@ has-out xs k x h = rw (le-ltb x setBits h) refl
 -- bit x % 64 of word i is the member x of word i
 pub word-at : (xs : List ℕ) (k i x : ℕ) → i < setWords → x / wordBits ≡ i → bit (getD xs (setWords * k + i) 0) (x % wordBits) ≡ has xs k x
 word-at xs k i x h e = sym (word-has xs k x (omega arith) ∙ rw e refl)
-
-and-first : (a b : Bool) → (a && b) ≡ true → a ≡ true
-and-first true b e = refl
-and-first false b e = e
 
 pub has-below : (xs : List ℕ) (k x : ℕ) → has xs k x ≡ true → x < setBits
 unfolding has

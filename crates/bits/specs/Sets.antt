@@ -2,9 +2,9 @@
 use mathlib.Core.Path.{_≡_}
 use mathlib.Core.Bool.{Bool, true, false, cond, _&&_, _||_}
 use mathlib.Core.List.{List}
-use Prim.Native.Nat.{ℕ, zero, suc, _+_, _*_, _/_, _%_, _^_, _-_, _≤_, _<_}
+use Prim.Native.Nat.{ℕ, zero, suc, _+_, _*_, _/_, _%_, _^_, _≤_, _<_}
 use lib.ListN.{getD}
-use lib.Dec.{eqb, ltb, leb}
+use lib.Dec.{eqb, ltb}
 
 abbrev pub wordBits : ℕ
 wordBits = 64
@@ -65,13 +65,3 @@ sizeOf xs k = countBelow (has xs k) setBits
 pub data LeastFrom (f : ℕ → Bool) (bound : ℕ) : ℕ → Type 0 where
   found : {q : ℕ} → bound ≤ q → f q ≡ true → ((x : ℕ) → bound ≤ x → x < q → f x ≡ false) → LeastFrom f bound q
   nowhere : ((x : ℕ) → bound ≤ x → f x ≡ false) → LeastFrom f bound 0
-
--- p is in the set of one word whose bit 0 stands for `base`
-unfoldable pub inWord : ℕ → ℕ → ℕ → Bool
-inWord base m p = leb base p && bit m (p - base)
-
--- from the bytes xs to the bytes ys, the word x was written at `at`, its lowest byte first, and nothing else changed
-pub record WordAt (xs ys : List ℕ) (at x : ℕ) : Type 0 where
-  pub word : (b : ℕ) → b < wordBits → bit (getD ys (at + b / byteBits) 0) (b % byteBits) ≡ bit x b
-  pub before : (i : ℕ) → i < at → getD ys i 0 ≡ getD xs i 0
-  pub after : (i : ℕ) → at + wordBytes ≤ i → getD ys i 0 ≡ getD xs i 0

@@ -2,9 +2,11 @@
 ghost use mathlib.Core.Path.{_≡_};
 ghost use mathlib.Core.Bool.{_||_, _&&_, cond, false, not};
 ghost use Prim.Native.Nat.{ℕ, _+_, _*_, _/_, _%_, _^_, _≤_, _<_};
+ghost use lib.Count.{trailingZeros};
 ghost use lib.ListN.{length, getD};
 ghost use lib.Dec.{eqb};
-ghost use Rattle.bits.specs.Sets.{wordBits, wordBytes, byteBits, setWords, setBits, setBytes, bit, has, rowHas, share, sizeOf, LeastFrom, inWord, WordAt};
+ghost use Rattle.bits.specs.Sets.{wordBits, wordBytes, byteBits, setWords, setBits, setBytes, bit, has, rowHas, share, sizeOf, LeastFrom};
+ghost use Rattle.bits.specs.Words.{inWord, WordAt};
 
 pub const WORD_BITS: usize = 64;
 
@@ -12,11 +14,14 @@ pub const WORD_BYTES: usize = 8;
 
 const BYTE_BITS: usize = 8;
 
+// How many words a set has; specs/Sets.antt has the same number.
 pub const SET_WORDS: usize = 2;
 
-pub const SET_BITS: usize = 128;
+// A set's members are below this.
+pub const SET_BITS: usize = WORD_BITS * SET_WORDS;
 
-pub const SET_BYTES: usize = 16;
+// How many bytes of a row a set takes.
+pub const SET_BYTES: usize = WORD_BYTES * SET_WORDS;
 
 // Whether q is in set k.
 pub fn has_at(sets: &[u64], k: usize, q: usize) -> bool
@@ -146,6 +151,14 @@ pub fn meets(a: &[u64], j: usize, b: &[u64], k: usize) -> bool
     both != 0
 }
 
+// The lowest bit of a word that has one.
+fn lowest_bit(m: u64) -> usize
+    requires { ⌜ 0 < m ⌝ }
+    ensures { λ r. ⌜ (r ≡ trailingZeros wordBits m) × (r < wordBits) ⌝ }
+{
+    u64::trailing_zeros(m) as usize
+}
+
 // Puts set j of `to` into the set of each member of the word `from`, whose bit 0 stands for `base`.
 fn link_word(table: &mut [u64], base: usize, from: u64, to: &[u64], j: usize)
     requires { ⌜ (base + wordBits ≤ setBits) × (setWords * setBits ≤ length (now table)) × (setWords * (j + 1) ≤ length (now to)) ⌝ }
@@ -153,7 +166,7 @@ fn link_word(table: &mut [u64], base: usize, from: u64, to: &[u64], j: usize)
 {
     let mut m = from;
     while m != 0 {
-        let i = u64::trailing_zeros(m) as usize;
+        let i = lowest_bit(m);
         join(table, base + i, to, j);
         m = m & (m - 1);
     }
@@ -187,7 +200,7 @@ fn sift_word(from: u64, base: usize, table: &[u64], other: &[u64]) -> u64
     let mut kept = 0;
     let mut m = from;
     while m != 0 {
-        let i = u64::trailing_zeros(m) as usize;
+        let i = lowest_bit(m);
         kept = kept | kept_bit(table, base + i, other, i);
         m = m & (m - 1);
     }
@@ -219,13 +232,13 @@ pub fn least_from(sets: &[u64], k: usize, bound: usize) -> usize
     let b = bound % WORD_BITS;
     let m = sets[SET_WORDS * k + i] >> b << b;
     if m != 0 {
-        return WORD_BITS * i + u64::trailing_zeros(m) as usize;
+        return WORD_BITS * i + lowest_bit(m);
     }
     i += 1;
     while i < SET_WORDS {
         let w = sets[SET_WORDS * k + i];
         if w != 0 {
-            return WORD_BITS * i + u64::trailing_zeros(w) as usize;
+            return WORD_BITS * i + lowest_bit(w);
         }
         i += 1;
     }

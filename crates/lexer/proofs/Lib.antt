@@ -1,2 +1,5 @@
 pub mod Literals
 pub mod Inside
+pub mod Front
+pub mod Repeats
+pub mod Units

@@ -25,7 +25,7 @@ use Rattle.text.proofs.Parsing.{parse-iff, unambiguous}
 
 -- LEAVES
 -- the leaves of tokens, all together
-abbrev total : List Placed → ℕ
+abbrev pub total : List Placed → ℕ
 total [] = 0
 total (placed i t ∷ ps) = leavesOf t + total ps
 
@@ -34,7 +34,7 @@ total-append [] qs = omega arith
 total-append (placed i t ∷ ps) qs = omega (arith, total-append ps qs)
 
 -- where the leaves nowhere pass the limit, all together they do not
-passed-total : (n : ℕ) (ps : List Placed) → n ≤ leafLimit → passing n ps ≡ none → n + total ps ≤ leafLimit
+pub passed-total : (n : ℕ) (ps : List Placed) → n ≤ leafLimit → passing n ps ≡ none → n + total ps ≤ leafLimit
 passed-total n [] h e = omega arith
 passed-total n (placed i t ∷ ps) h e = go (ltb leafLimit (n + leavesOf t)) refl (λ k f. passed-total (n + leavesOf t) ps k f) e
   where
@@ -67,7 +67,7 @@ same-leaves b t e zero ts = refl
 same-leaves b t e (suc n) ts = rw (e, same-leaves b t e n ts) refl
 
 -- a repeat has y leaves, all the same
-copies-leaves : (b x y : ℕ) → leaves (copies b x y) ≡ replicate x b ++ replicate (y - x) b
+pub copies-leaves : (b x y : ℕ) → leaves (copies b x y) ≡ replicate x b ++ replicate (y - x) b
 copies-leaves b x y =
     all-leaves (replicate x (leaf b) ++ replicate (y - x) (alt (leaf b) empty))
     ∙ same-leaves b (leaf b) refl x (replicate (y - x) (alt (leaf b) empty))
@@ -87,9 +87,9 @@ copies-plain b x y h = rw (copies-leaves b x y) (any-append outside (replicate x
 
 -- WHOLE TEXTS
 -- what is known of a tree from its tokens
-record Known (ps : List Placed) (t : Tree ℕ) : Type 0 where
-  sized : size t ≡ total ps
-  plain : Plain t
+pub record Known (ps : List Placed) (t : Tree ℕ) : Type 0 where
+  pub sized : size t ≡ total ps
+  pub plain : anyOf outside (leaves t) ≡ false
 
 front : (ps qs : List Placed) → Writable (ps ++ qs) → Writable ps
 front [] qs w = tt
@@ -99,7 +99,7 @@ back : (ps qs : List Placed) → Writable (ps ++ qs) → Writable qs
 back [] qs w = w
 back (placed i t ∷ ps) qs (l, w) = back ps qs w
 
-known : {d : ℕ} {l : Level} {ps : List Placed} {t : Tree ℕ} → Parses d l ps t → Writable ps → Known ps t
+pub known : {d : ℕ} {l : Level} {ps : List Placed} {t : Tree ℕ} → Parses d l ps t → Writable ps → Known ps t
 known (literal {b = b} {x = x} {y = y}) ((h, r), w) = record { sized = omega (arith, copies-size b x y r); plain = copies-plain b x y h }
 known void w = record { sized = refl; plain = refl }
 known (group j {ps = ps} p) (l, w) =

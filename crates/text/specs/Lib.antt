@@ -2,3 +2,4 @@ pub mod Grammar
 pub mod Walk
 pub mod Refusals
 pub mod Outcome
+pub mod Reads

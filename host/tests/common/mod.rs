@@ -2,7 +2,19 @@
 
 #![allow(dead_code)]
 
-use satchelram_host::matcher::calls::{self, Outcome};
+use satchelram_host::matcher::calls::Outcome;
+
+#[cfg(feature = "archive")]
+pub mod both;
+#[cfg(feature = "archive")]
+pub mod lent;
+pub mod options;
+
+/// The calls that the tests make: the matcher's, and with an archive the archive's too, which must agree.
+#[cfg(feature = "archive")]
+pub use both as calls;
+#[cfg(not(feature = "archive"))]
+pub use satchelram_host::matcher::calls;
 
 pub const GARBAGE: u8 = 0xEE;
 /// Bytes that every buffer has beyond what is asked of it.

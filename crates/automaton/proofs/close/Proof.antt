@@ -1,5 +1,5 @@
 use borrow.Author.Needs.{needs}
-use mathlib.Core.Path.{_≡_, refl, ap, sym, _∙_}
+use mathlib.Core.Path.{sym, _∙_}
 use Rattle.automaton.proofs.Steps.{close-not, close-so}
 use Rattle.automaton.proofs.close.Statement.{statement}
 use Rattle.automaton.proofs.close.Tie as tie
@@ -26,7 +26,12 @@ same-length : tie.Need-same-length
 same-length c = search needs
 
 returns : tie.Need-returns
-returns c = close-so (c .before .before .before .before .before .before .before .before .before .before .before .before .args .stops .now) (c .before .before .before .before .before .before .drop-start .last .0) (c .before .before .join-within .last .0) (c .before .before .before .before .before .before .before .before .before .before .before .before .args .k) (sym (c .before .before .before .before .before .before .before .before .before .has-at .ensures) ∙ c .before .before .before .before .before .before .before .before .if1 .taken) (c .before .before .before .before .before .before .drop-start .ensures) (c .before .before .join-within .ensures)
+returns c =
+    let g = c .before .before .before .before .before .before .before .before .before .before .before .before .args in
+    let h = c .before .before .before .before .before .before .before .before .before .has-at in
+    let x = c .before .before .before .before .before .before .drop-start in
+    let y = c .before .before .join-within in
+    close-so (g .stops .now) (x .last .0) (y .last .0) (g .k) (sym (h .ensures) ∙ c .before .before .before .before .before .before .before .before .if1 .taken) (x .ensures) (y .ensures)
 
 add-copy-within : tie.Need-add-copy-within
 add-copy-within c = search needs
@@ -38,7 +43,11 @@ same-length-2 : tie.Need-same-length-2
 same-length-2 c = search needs
 
 returns-2 : tie.Need-returns-2
-returns-2 c = close-not (c .before .before .before .before .before .before .before .before .args .stops .now) (c .before .before .copy-within .last .0) (c .before .before .before .before .before .before .before .before .args .k) (sym (c .before .before .before .before .before .has-at .ensures) ∙ c .before .before .before .before .if1 .left) (c .before .before .copy-within .ensures)
+returns-2 c =
+    let g = c .before .before .before .before .before .before .before .before .args in
+    let h = c .before .before .before .before .before .has-at in
+    let x = c .before .before .copy-within in
+    close-not (g .stops .now) (x .last .0) (g .k) (sym (h .ensures) ∙ c .before .before .before .before .if1 .left) (x .ensures)
 
 pub close-spec : {M : Type 1} → statement M
 close-spec =

@@ -25,7 +25,12 @@ same-length-3 : tie.Need-same-length-3
 same-length-3 c = search needs
 
 returns : tie.Need-returns
-returns c = cat-law (c .before .before .before .before .before .before .before .before .before .before .before .before .before .before .before .before .before .before .args .follow .now) (c .before .before .before .before .before .before .before .before .before .before .before .link .last .0) (c .before .before .before .before .before .before .before .before .before .before .before .before .before .before .before .before .before .before .args .firsts .now) (c .before .before .before .before .before .before .reach .last .0) (c .before .before .before .before .before .before .before .before .before .before .before .before .before .before .before .before .before .before .args .stops .now) (c .before .before .close .last .0) (c .before .before .before .before .before .before .before .before .before .before .before .before .before .before .before .before .before .before .args .k) (c .before .before .before .before .before .before .before .before .before .before .before .link .ensures) (c .before .before .before .before .before .before .reach .ensures) (c .before .before .close .ensures)
+returns c =
+    let g = c .before .before .before .before .before .before .before .before .before .before .before .before .before .before .before .before .before .before .args in
+    let x = c .before .before .before .before .before .before .before .before .before .before .before .link in
+    let y = c .before .before .before .before .before .before .reach in
+    let z = c .before .before .close in
+    cat-law (g .follow .now) (x .last .0) (g .firsts .now) (y .last .0) (g .stops .now) (z .last .0) (g .k) (x .ensures) (y .ensures) (z .ensures)
 
 pub put-cat-spec : {M : Type 1} → statement M
 put-cat-spec =

@@ -1,5 +1,4 @@
 use borrow.Author.Needs.{needs}
-use native.Mathlib.Omega.{arith}
 use Rattle.automaton.proofs.Steps.{replaced, empty-law}
 use Rattle.automaton.proofs.put_empty.Statement.{statement}
 use Rattle.automaton.proofs.put_empty.Tie as tie
@@ -17,7 +16,11 @@ same-length-2 : tie.Need-same-length-2
 same-length-2 c = search needs
 
 returns : tie.Need-returns
-returns c = empty-law (c .before .before .before .before .before .before .before .before .before .before .args .firsts .now) (c .before .before .before .before .before .before .before .before .before .before .args .stops .now) (c .before .before .before .before .before .before .clear .last .0) (c .before .before .single .last .0) (c .before .before .before .before .before .before .before .before .before .before .args .k) (replaced (λ p x l. c .before .before .before .before .before .before .clear .ensures p x)) (replaced (λ p x l. c .before .before .single .ensures p x))
+returns c =
+    let g = c .before .before .before .before .before .before .before .before .before .before .args in
+    let x = c .before .before .before .before .before .before .clear in
+    let y = c .before .before .single in
+    empty-law (g .firsts .now) (g .stops .now) (x .last .0) (y .last .0) (g .k) (replaced (λ p q l. x .ensures p q)) (replaced (λ p q l. y .ensures p q))
 
 pub put-empty-spec : {M : Type 1} → statement M
 put-empty-spec =

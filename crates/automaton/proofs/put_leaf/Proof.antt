@@ -17,7 +17,11 @@ same-length-2 : tie.Need-same-length-2
 same-length-2 c = search needs
 
 returns : tie.Need-returns
-returns c = leaf-law (c .before .before .before .before .before .before .before .before .before .before .args .firsts .now) (c .before .before .before .before .before .before .before .before .before .before .args .stops .now) (c .before .before .before .before .before .before .single .last .0) (c .before .before .single2 .last .0) (c .before .before .before .before .before .before .before .before .before .before .args .k) (c .before .before .before .before .before .before .before .before .before .before .args .p) (omega arith) (replaced (λ p x l. c .before .before .before .before .before .before .single .ensures p x)) (replaced (λ p x l. c .before .before .single2 .ensures p x))
+returns c =
+    let g = c .before .before .before .before .before .before .before .before .before .before .args in
+    let x = c .before .before .before .before .before .before .single in
+    let y = c .before .before .single2 in
+    leaf-law (g .firsts .now) (g .stops .now) (x .last .0) (y .last .0) (g .k) (g .p) (omega arith) (replaced (λ p q l. x .ensures p q)) (replaced (λ p q l. y .ensures p q))
 
 pub put-leaf-spec : {M : Type 1} → statement M
 put-leaf-spec =

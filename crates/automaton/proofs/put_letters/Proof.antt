@@ -1,44 +1,54 @@
 use borrow.Author.Needs.{needs}
-use mathlib.Core.Path.{_≡_, refl, ap, sym, _∙_}
-use Prim.Native.Nat.{ℕ, _+_, _*_, _-_, _<_, _≤_}
+use mathlib.Core.Path.{_≡_, refl}
+use Prim.Native.Nat.{_-_, _≤_}
 use native.Mathlib.Omega.{arith}
 use lib.ListN.{length}
 use Rattle.sheet.specs.Layout.{leafCount}
-use Rattle.sheet.proofs.Accepted.{Conditions, conditions}
+use Rattle.sheet.proofs.Accepted.{conditions}
 use Rattle.automaton.specs.Walk.{LettersTo}
 use Rattle.automaton.proofs.Filled.{letters-start, letters-turn}
 use Rattle.automaton.proofs.put_letters.Statement.{statement}
 use Rattle.automaton.proofs.put_letters.Tie as tie
 
 abbrev Inv-loop : tie.InvT-loop
-Inv-loop sheet letters₀ n p₀ letters p = (p ≤ n) × ((length letters ≡ length letters₀) × LettersTo sheet letters p)
+Inv-loop sheet letters₀ n p₀ letters p = (p ≤ n) × (length letters ≡ length letters₀) × LettersTo sheet letters p
 
 abbrev μ-loop : tie.MeasureT-loop
 μ-loop sheet letters₀ n p₀ letters p = n - p
 
 shared-slice-read-wide : tie.Need-shared-slice-read-wide Inv-loop μ-loop
-shared-slice-read-wide c = let d = conditions (c .before .before .before .args .sheet .now) (c .before .before .before .pre .0) in omega (arith, d .counts)
+shared-slice-read-wide c =
+    let d = conditions (c .before .before .before .args .sheet .now) (c .before .before .before .pre .0) in
+    omega (arith, d .counts)
 
 wide-requires : tie.Need-wide-requires Inv-loop μ-loop
 wide-requires c κs = search needs
 
 loop-holds : tie.Need-loop-holds Inv-loop μ-loop
-loop-holds c = (omega arith, (refl, letters-start (c .before .before .before .before .args .sheet .now) (c .before .before .before .before .args .letters .now) (c .before .before .before .before .pre .1)))
+loop-holds c =
+    let g = c .before .before .before .before .args in
+    (omega arith, refl, letters-start (g .sheet .now) (g .letters .now) (c .before .before .before .before .pre .1))
 
 add-p : tie.Need-add-p Inv-loop μ-loop
 add-p c = search needs
 
 add-wide : tie.Need-add-wide Inv-loop μ-loop
-add-wide c = let d = conditions (c .before .before .before .before .before .before .before .args .sheet .now) (c .before .before .before .before .before .before .before .pre .0) in omega (arith, d .few)
+add-wide c =
+    let d = conditions (c .before .before .before .before .before .before .before .args .sheet .now) (c .before .before .before .before .before .before .before .pre .0) in
+    omega (arith, d .few)
 
 shared-slice-read-wide-2 : tie.Need-shared-slice-read-wide-2 Inv-loop μ-loop
-shared-slice-read-wide-2 c = let d = conditions (c .before .before .before .before .before .before .before .before .args .sheet .now) (c .before .before .before .before .before .before .before .before .pre .0) in omega (arith, d .few, d .counts)
+shared-slice-read-wide-2 c =
+    let d = conditions (c .before .before .before .before .before .before .before .before .args .sheet .now) (c .before .before .before .before .before .before .before .before .pre .0) in
+    omega (arith, d .few, d .counts)
 
 wide-requires-2 : tie.Need-wide-requires-2 Inv-loop μ-loop
 wide-requires-2 c κs = search needs
 
 insert-requires : tie.Need-insert-requires Inv-loop μ-loop
-insert-requires c κs = let d = conditions (c .before .before .before .before .before .before .before .before .before .args .sheet .now) (c .before .before .before .before .before .before .before .before .before .pre .0) in omega (arith, d .few)
+insert-requires c κs =
+    let d = conditions (c .before .before .before .before .before .before .before .before .before .args .sheet .now) (c .before .before .before .before .before .before .before .before .before .pre .0) in
+    omega (arith, d .few)
 
 loop-less : tie.Need-loop-less Inv-loop μ-loop
 loop-less c = search needs
@@ -46,8 +56,9 @@ loop-less c = search needs
 loop-again : tie.Need-loop-again Inv-loop μ-loop
 loop-again c =
     let l = c .before .before .before .before .before .before .before .loop in
-    let i = c .before .before .insert in
-    (omega arith, (omega arith, letters-turn (c .before .before .before .before .before .before .before .before .before .before .before .before .args .sheet .now) (l .letters) (i .last .0) (l .p) (c .before .before .before .wide2 .result) (c .before .before .before .wide2 .ensures .0) (l .inv .1 .1) (i .ensures)))
+    let w = c .before .before .before .wide2 in
+    let x = c .before .before .insert in
+    (omega arith, omega arith, letters-turn (c .before .before .before .before .before .before .before .before .before .before .before .before .args .sheet .now) (l .letters) (x .last .0) (l .p) (w .result) (w .ensures .0) (l .inv .2) (x .ensures))
 
 same-length : tie.Need-same-length Inv-loop μ-loop
 same-length c = search needs
@@ -56,7 +67,7 @@ returns : tie.Need-returns Inv-loop μ-loop
 returns c =
     let l = c .before .loop in
     let e : l .p ≡ leafCount (c .before .before .before .before .before .before .args .sheet .now) = omega (arith, c .before .before .wide .ensures .0) in
-    rw e at (l .inv .1 .1)
+    rw e at (l .inv .2)
 
 pub put-letters-spec : {M : Type 1} → statement M
 put-letters-spec =

@@ -17,7 +17,11 @@ same-length-2 : tie.Need-same-length-2
 same-length-2 c = search needs
 
 returns : tie.Need-returns
-returns c = star-law (c .before .before .before .before .before .before .before .before .before .before .before .before .args .follow .now) (c .before .before .before .before .before .before .link .last .0) (c .before .before .before .before .before .before .before .before .before .before .before .before .args .firsts .now) (c .before .before .before .before .before .before .before .before .before .before .before .before .args .firsts .now) (c .before .before .before .before .before .before .before .before .before .before .before .before .args .stops .now) (c .before .before .insert .last .0) (c .before .before .before .before .before .before .before .before .before .before .before .before .args .k) (c .before .before .before .before .before .before .link .ensures) (enlarged (λ x. eqb x 0) (c .before .before .insert .ensures))
+returns c =
+    let g = c .before .before .before .before .before .before .before .before .before .before .before .before .args in
+    let x = c .before .before .before .before .before .before .link in
+    let y = c .before .before .insert in
+    star-law (g .follow .now) (x .last .0) (g .firsts .now) (g .firsts .now) (g .stops .now) (y .last .0) (g .k) (x .ensures) (enlarged (λ q. eqb q 0) (y .ensures))
 
 pub put-star-spec : {M : Type 1} → statement M
 put-star-spec =

@@ -1,18 +1,15 @@
 use borrow.Author.Needs.{needs}
-use Prim.Native.Nat.{ℕ, _+_, _*_, _-_, _<_, _≤_}
+use Prim.Native.Nat.{_+_}
 use Rattle.bits.specs.Sets.{has}
 use Rattle.automaton.proofs.Steps.{enlarged, alt-law}
 use Rattle.automaton.proofs.put_union.Statement.{statement}
 use Rattle.automaton.proofs.put_union.Tie as tie
 
-add-join-within : tie.Need-add-join-within
-add-join-within c = search needs
+add-right : tie.Need-add-right
+add-right c = search needs
 
 join-within-requires : tie.Need-join-within-requires
 join-within-requires c κs = search needs
-
-add-join-within-2 : tie.Need-add-join-within-2
-add-join-within-2 c = search needs
 
 join-within-requires-2 : tie.Need-join-within-requires-2
 join-within-requires-2 c κs = search needs
@@ -26,17 +23,18 @@ same-length-2 c = search needs
 returns : tie.Need-returns
 returns c =
     let k = c .before .before .before .before .before .before .before .before .before .before .args .k in
-    let f = (c .before .before .before .before .before .before .before .before .before .before .args .firsts .now) in
-    let s = (c .before .before .before .before .before .before .before .before .before .before .args .stops .now) in
-    alt-law f s (c .before .before .before .before .before .before .join-within .last .0) (c .before .before .join-within2 .last .0) k (enlarged (λ x. has f (k + 1) x) (c .before .before .before .before .before .before .join-within .ensures)) (enlarged (λ x. has s (k + 1) x) (c .before .before .join-within2 .ensures))
+    let f = c .before .before .before .before .before .before .before .before .before .before .args .firsts .now in
+    let s = c .before .before .before .before .before .before .before .before .before .before .args .stops .now in
+    let x = c .before .before .before .before .before .before .join-within in
+    let y = c .before .before .join-within2 in
+    alt-law f s (x .last .0) (y .last .0) k (enlarged (has f (k + 1)) (x .ensures)) (enlarged (has s (k + 1)) (y .ensures))
 
 pub put-union-spec : {M : Type 1} → statement M
 put-union-spec =
     tie.close
     (tie.spec
-    add-join-within
+    add-right
     join-within-requires
-    add-join-within-2
     join-within-requires-2
     same-length
     same-length-2

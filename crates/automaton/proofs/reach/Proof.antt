@@ -1,5 +1,5 @@
 use borrow.Author.Needs.{needs}
-use mathlib.Core.Path.{_≡_, refl, ap, sym, _∙_}
+use mathlib.Core.Path.{sym, _∙_}
 use borrow.Author.Tests.{not-true, not-false}
 use Rattle.automaton.proofs.Steps.{reach-not, reach-so}
 use Rattle.automaton.proofs.reach.Statement.{statement}
@@ -9,7 +9,10 @@ has-at-requires : tie.Need-has-at-requires
 has-at-requires c κs = search needs
 
 returns : tie.Need-returns
-returns c = reach-not (c .before .before .before .before .args .firsts .now) (c .before .before .before .before .args .stops .now) (c .before .before .before .before .args .k) (sym (c .before .has-at .ensures) ∙ not-true _ (c .if1 .taken))
+returns c =
+    let g = c .before .before .before .before .args in
+    let h = c .before .has-at in
+    reach-not (g .firsts .now) (g .stops .now) (g .k) (sym (h .ensures) ∙ not-true _ (c .if1 .taken))
 
 add-join-within : tie.Need-add-join-within
 add-join-within c = search needs
@@ -21,7 +24,11 @@ same-length : tie.Need-same-length
 same-length c = search needs
 
 returns-2 : tie.Need-returns-2
-returns-2 c = reach-so (c .before .before .before .before .before .before .before .before .args .firsts .now) (c .before .before .join-within .last .0) (c .before .before .before .before .before .before .before .before .args .stops .now) (c .before .before .before .before .before .before .before .before .args .k) (sym (c .before .before .before .before .before .has-at .ensures) ∙ not-false _ (c .before .before .before .before .if1 .left)) (c .before .before .join-within .ensures)
+returns-2 c =
+    let g = c .before .before .before .before .before .before .before .before .args in
+    let h = c .before .before .before .before .before .has-at in
+    let x = c .before .before .join-within in
+    reach-so (g .firsts .now) (x .last .0) (g .stops .now) (g .k) (sym (h .ensures) ∙ not-false _ (c .before .before .before .before .if1 .left)) (x .ensures)
 
 pub reach-spec : {M : Type 1} → statement M
 reach-spec =

@@ -1,5 +1,4 @@
 use borrow.Author.Needs.{needs}
-use native.Mathlib.Omega.{arith}
 use Rattle.automaton.proofs.Filled.{finished}
 use Rattle.automaton.proofs.tables.Statement.{statement}
 use Rattle.automaton.proofs.tables.Tie as tie
@@ -11,7 +10,9 @@ slice-aggregate-walk-2 : tie.Need-slice-aggregate-walk-2
 slice-aggregate-walk-2 c = search needs
 
 walk-requires : tie.Need-walk-requires
-walk-requires c κs = ((c .before .before .before .before .before .before .before .pre .0 .0, c .before .before .before .before .before .before .before .pre .0 .1), search needs)
+walk-requires c κs =
+    let p = c .before .before .before .before .before .before .before .pre in
+    ((p .0 .0, p .0 .1), search needs)
 
 slice-aggregate-copy-set : tie.Need-slice-aggregate-copy-set
 slice-aggregate-copy-set c = search needs
@@ -26,7 +27,9 @@ copy-set-requires-2 : tie.Need-copy-set-requires-2
 copy-set-requires-2 c κs = search needs
 
 put-letters-requires : tie.Need-put-letters-requires
-put-letters-requires c κs = (c .before .before .before .before .before .before .before .before .before .before .before .before .before .before .before .before .before .before .before .before .before .before .before .pre .0 .0, c .before .before .before .before .before .before .before .before .before .before .before .before .before .before .before .before .before .before .before .before .before .before .before .pre .0 .2, search needs)
+put-letters-requires c κs =
+    let p = c .before .before .before .before .before .before .before .before .before .before .before .before .before .before .before .before .before .before .before .before .before .before .before .pre in
+    (p .0 .0, p .0 .2, search needs)
 
 same-length : tie.Need-same-length
 same-length c = search needs
@@ -41,10 +44,10 @@ returns : tie.Need-returns
 returns c =
     let g = c .before .before .before .before .before .before .before .before .before .before .before .before .before .before .before .before .before .before .before .before .before .before .before .before .before .before .args in
     let w = c .before .before .before .before .before .before .before .before .before .before .before .before .before .before .before .before .before .before .walk in
-    let a = c .before .before .before .before .before .before .before .before .before .before .before .copy-set in
-    let b = c .before .before .before .before .before .before .copy-set2 in
-    let l = c .before .before .put-letters in
-    finished (g .sheet .now) (w .last .1 .0) (a .last .0) (w .last .1 .1 .0) (w .last .1 .1 .1 .0) (g .stop .now) (b .last .0) (l .last .1 .0) (c .before .before .before .before .before .before .before .before .before .before .before .before .before .before .before .before .before .before .before .before .before .before .before .before .before .before .pre .0 .0) (w .ensures) (a .ensures) (b .ensures) (l .ensures)
+    let x = c .before .before .before .before .before .before .before .before .before .before .before .copy-set in
+    let y = c .before .before .before .before .before .before .copy-set2 in
+    let z = c .before .before .put-letters in
+    finished (g .sheet .now) (w .last .1 .0) (x .last .0) (w .last .1 .1 .0) (w .last .1 .1 .1 .0) (g .stop .now) (y .last .0) (z .last .1 .0) (c .before .before .before .before .before .before .before .before .before .before .before .before .before .before .before .before .before .before .before .before .before .before .before .before .before .before .pre .0 .0) (w .ensures) (x .ensures) (y .ensures) (z .ensures)
 
 pub tables-spec : {M : Type 1} → statement M
 tables-spec =

@@ -1,10 +1,10 @@
 use borrow.Author.Needs.{needs}
-use mathlib.Core.Path.{_≡_, refl, ap, sym, _∙_}
-use Prim.Native.Nat.{ℕ, _+_, _*_, _-_, _<_, _≤_}
+use mathlib.Core.Path.{_≡_, refl, ap}
+use Prim.Native.Nat.{ℕ, _+_, _-_}
 use native.Mathlib.Omega.{arith}
-use lib.ListN.{length, getD}
+use lib.ListN.{length}
 use Rattle.sheet.specs.Layout.{leafCount}
-use Rattle.sheet.proofs.Accepted.{Conditions, conditions}
+use Rattle.sheet.proofs.Accepted.{conditions}
 use Rattle.automaton.proofs.Nodes.{Going, start, not-deep, leaf-fits, leaf-turn, empty-fits, empty-turn, cat-fits, cat-turn, alt-fits, alt-turn, star-fits, star-turn, finish}
 use Rattle.automaton.proofs.walk.Statement.{statement}
 use Rattle.automaton.proofs.walk.Tie as tie
@@ -16,7 +16,9 @@ abbrev μ-loop : tie.MeasureT-loop
 μ-loop sheet follow₀ firsts₀ stops₀ at₀ top₀ p₀ follow firsts stops at top p = length sheet - at
 
 shared-slice-read-wide : tie.Need-shared-slice-read-wide Inv-loop μ-loop
-shared-slice-read-wide c = let d = conditions (c .before .before .before .before .before .args .sheet .now) (c .before .before .before .before .before .pre .0 .0) in omega (arith, d .counts)
+shared-slice-read-wide c =
+    let d = conditions (c .before .before .before .before .before .args .sheet .now) (c .before .before .before .before .before .pre .0 .0) in
+    omega (arith, d .counts)
 
 wide-requires : tie.Need-wide-requires Inv-loop μ-loop
 wide-requires c κs = search needs
@@ -27,7 +29,8 @@ add-at c = search needs
 loop-holds : tie.Need-loop-holds Inv-loop μ-loop
 loop-holds c =
     let s = c .before .before .before .before .before .before .args .sheet .now in
-    (refl, refl, refl, start s _ _ _ (c .before .before .before .before .before .before .pre .0 .0) (omega (arith, c .before .before .before .before .before .shared-slice-known .given (2 + leafCount s) .fits)) (c .before .before .before .before .before .before .pre .0 .1) _ (ap (λ (l : ℕ). 3 + l) (c .wide .ensures .0)))
+    let f = c .before .before .before .before .before .shared-slice-known .given (2 + leafCount s) .fits in
+    (refl, refl, refl, start s _ _ _ (c .before .before .before .before .before .before .pre .0 .0) (omega (arith, f)) (c .before .before .before .before .before .before .pre .0 .1) _ (ap (λ (n : ℕ). 3 + n) (c .wide .ensures .0)))
 
 shared-slice-read-node : tie.Need-shared-slice-read-node Inv-loop μ-loop
 shared-slice-read-node c = search needs

@@ -1,9 +1,9 @@
 use borrow.Author.Needs.{needs}
-use mathlib.Core.Path.{_≡_, refl, _∙_}
-use mathlib.Core.Bool.{Bool, false, _||_, _&&_}
-use Prim.Native.Nat.{ℕ, _-_}
+use mathlib.Core.Bool.{false}
+use mathlib.Core.Path.{refl}
+use Prim.Native.Nat.{_-_}
 use native.Mathlib.Omega.{arith}
-use Rattle.bits.specs.Sets.{setWords, has}
+use Rattle.bits.specs.Sets.{setWords}
 use Rattle.bits.proofs.Bits.{bit-zero}
 use Rattle.bits.proofs.Stores.{Done, done-start, done-turn, done-end}
 use Rattle.bits.proofs.clear.Statement.{statement}
@@ -37,13 +37,17 @@ loop-less : tie.Need-loop-less Inv-loop μ-loop
 loop-less c = search needs
 
 loop-again : tie.Need-loop-again Inv-loop μ-loop
-loop-again c = done-turn (c .before .loop .inv) _ (omega arith) (omega arith) (λ x e. bit-zero _)
+loop-again c =
+    let l = c .before .loop in
+    done-turn (l .inv) _ (omega arith) (omega arith) (λ x e. bit-zero _)
 
 same-length : tie.Need-same-length Inv-loop μ-loop
 same-length c = search needs
 
 returns : tie.Need-returns Inv-loop μ-loop
-returns c = done-end (c .before .loop .inv) (omega arith) (λ x h. refl)
+returns c =
+    let l = c .before .loop in
+    done-end (l .inv) (omega arith) (λ x h. refl)
 
 pub clear-spec : {M : Type 1} → statement M
 clear-spec =

@@ -32,7 +32,9 @@ same-length : tie.Need-same-length
 same-length c = search needs
 
 returns : tie.Need-returns
-returns c = start-dropped (c .before .before .args .sets .now) (c .before .before .args .k) (omega arith)
+returns c =
+    let g = c .before .before .args in
+    start-dropped (g .sets .now) (g .k) (omega arith)
 
 pub drop-start-spec : {M : Type 1} → statement M
 drop-start-spec =

@@ -1,6 +1,5 @@
 use borrow.Author.Needs.{needs}
-use mathlib.Core.Path.{_≡_, refl, sym, _∙_}
-use Prim.Native.Nat.{ℕ, _+_, _*_, _/_, _%_, _^_, _-_, _<_, _≤_}
+use Prim.Native.Nat.{_≤_}
 use native.Mathlib.Omega.{arith}
 use Rattle.bits.specs.Sets.{wordBytes}
 use Rattle.bits.proofs.Bytes.{Got, got-start, got-turn, got-end}
@@ -14,7 +13,9 @@ abbrev μ-loop : tie.MeasureT-loop
 μ-loop row at x₀ i₀ x i = i
 
 loop-holds : tie.Need-loop-holds Inv-loop μ-loop
-loop-holds c = (omega arith, got-start (c .before .args .row .now) (c .before .args .at))
+loop-holds c =
+    let g = c .before .args in
+    (omega arith, got-start (g .row .now) (g .at))
 
 sub-i : tie.Need-sub-i Inv-loop μ-loop
 sub-i c = search needs

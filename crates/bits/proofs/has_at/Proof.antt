@@ -1,8 +1,7 @@
 use borrow.Author.Needs.{needs}
-use mathlib.Core.Path.{_≡_, refl, _∙_}
 use native.Mathlib.Omega.{arith}
-use Rattle.bits.proofs.Stores.{word-has}
 use Rattle.bits.proofs.Bits.{bit-test}
+use Rattle.bits.proofs.Stores.{word-has}
 use Rattle.bits.proofs.has_at.Statement.{statement}
 use Rattle.bits.proofs.has_at.Tie as tie
 
@@ -22,7 +21,9 @@ shr-result : tie.Need-shr-result
 shr-result c = search needs
 
 returns : tie.Need-returns
-returns c = simp (bit-test, word-has (c .before .args .sets .now) (c .before .args .k) (c .before .args .q) (omega arith))
+returns c =
+    let g = c .before .args in
+    simp (bit-test, word-has (g .sets .now) (g .k) (g .q) (omega arith))
 
 pub has-at-spec : {M : Type 1} → statement M
 has-at-spec =

@@ -29,7 +29,9 @@ same-length : tie.Need-same-length
 same-length c = search needs
 
 returns : tie.Need-returns
-returns c = inserted (c .before .args .sets .now) (c .before .args .k) (c .before .args .q) (omega arith) (omega arith)
+returns c =
+    let g = c .before .args in
+    inserted (g .sets .now) (g .k) (g .q) (omega arith) (omega arith)
 
 pub insert-spec : {M : Type 1} → statement M
 insert-spec =

@@ -1,7 +1,7 @@
 use borrow.Author.Needs.{needs}
-use mathlib.Core.Path.{_≡_, refl, _∙_}
-use mathlib.Core.Bool.{Bool, false, _||_, _&&_}
-use Prim.Native.Nat.{ℕ, _-_}
+use mathlib.Core.Bool.{_||_}
+use mathlib.Core.Path.{_∙_}
+use Prim.Native.Nat.{_-_}
 use native.Mathlib.Omega.{arith}
 use Rattle.bits.specs.Sets.{setWords, has}
 use Rattle.bits.proofs.Stores.{Done, done-start, done-turn, done-end, as-it-was, word-at, or-word, more-out, with-more}
@@ -54,18 +54,21 @@ loop-less : tie.Need-loop-less Inv-loop μ-loop
 loop-less c = search needs
 
 loop-again : tie.Need-loop-again Inv-loop μ-loop
-loop-again c = done-turn (c .before .before .before .loop .inv) _ (omega arith) (omega arith) (λ x e. or-word _ _ _ (as-it-was (c .before .before .before .loop .inv) (c .before .before .before .before .args .k) x (omega arith) e) (word-at (c .before .before .before .before .args .from .now) (c .before .before .before .before .args .j) (c .before .before .before .loop .i) x (omega arith) e))
+loop-again c =
+    let g = c .before .before .before .before .args in
+    let l = c .before .before .before .loop in
+    done-turn (l .inv) _ (omega arith) (omega arith) (λ x e. or-word _ _ _ (as-it-was (l .inv) (g .k) x (omega arith) e) (word-at (g .from .now) (g .j) (l .i) x (omega arith) e))
 
 same-length : tie.Need-same-length Inv-loop μ-loop
 same-length c = search needs
 
 returns : tie.Need-returns Inv-loop μ-loop
 returns c =
-    let k = c .before .before .args .k in
-    let j = c .before .before .args .j in
+    let g = c .before .before .args in
+    let l = c .before .loop in
     let to = c .before .before .args .to .now in
     let from = c .before .before .args .from .now in
-    λ p x. done-end (c .before .loop .inv) (omega arith) (λ x h. more-out to from k j x h) p x ∙ with-more to k (λ x. has from j x) p x
+    λ p x. done-end (l .inv) (omega arith) (more-out to from (g .k) (g .j)) p x ∙ with-more to (g .k) (has from (g .j)) p x
 
 pub join-spec : {M : Type 1} → statement M
 join-spec =

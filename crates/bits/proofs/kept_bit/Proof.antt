@@ -1,9 +1,6 @@
 use borrow.Author.Needs.{needs}
-use mathlib.Core.Path.{_≡_, refl, sym, _∙_}
-use mathlib.Core.Bool.{Bool, false, _||_, _&&_}
-use Prim.Native.Nat.{ℕ, _+_, _*_, _^_, _-_, _<_, _≤_}
+use mathlib.Core.Path.{sym, _∙_}
 use native.Mathlib.Omega.{arith}
-use Rattle.bits.specs.Sets.{share}
 use Rattle.bits.proofs.Members.{kept-here, kept-not}
 use Rattle.bits.proofs.kept_bit.Statement.{statement}
 use Rattle.bits.proofs.kept_bit.Tie as tie
@@ -15,10 +12,14 @@ shl-result : tie.Need-shl-result
 shl-result c = search needs
 
 returns : tie.Need-returns
-returns c = λ b. kept-here (c .before .before .before .before .args .i) b _ (omega arith) (sym (c .before .meets .ensures) ∙ c .if1 .taken)
+returns c =
+    let m = c .before .meets in
+    λ b. kept-here (c .before .before .before .before .args .i) b _ (omega arith) (sym (m .ensures) ∙ c .if1 .taken)
 
 returns-2 : tie.Need-returns-2
-returns-2 c = λ b. kept-not (c .before .before .before .before .args .i) b _ (sym (c .before .meets .ensures) ∙ c .if1 .left)
+returns-2 c =
+    let m = c .before .meets in
+    λ b. kept-not (c .before .before .before .before .args .i) b _ (sym (m .ensures) ∙ c .if1 .left)
 
 pub kept-bit-spec : {M : Type 1} → statement M
 kept-bit-spec = tie.close (tie.spec meets-requires shl-result returns returns-2)

@@ -1,24 +1,26 @@
 use borrow.Author.Needs.{needs}
-use mathlib.Core.Path.{_≡_, refl, sym, _∙_}
-use Prim.Native.Nat.{ℕ, _+_, _*_, _/_, _%_, _^_, _-_, _<_, _≤_}
-use native.Mathlib.Omega.{arith}
+use mathlib.Core.Path.{refl}
+use Prim.Native.Nat.{ℕ, _+_, _*_, _/_, _-_, _≤_}
 use native.Mathlib.Nat.{mod-lt}
-use lib.Count.{trailing-le}
+use native.Mathlib.Omega.{arith}
 use lib.Pow.{pow-pos}
-use lib.ListN.{getD}
 use Rattle.bits.specs.Sets.{setWords, wordBits}
-use Rattle.bits.proofs.Least.{Clear, clear-start, mask-first, mask-later, least-next, least-here, least-none}
+use Rattle.bits.proofs.Bits.{lowest-at}
+use Rattle.bits.proofs.Least.{Clear, clear-start, mask-first, mask-later, least-next, least-found, least-none}
 use Rattle.bits.proofs.least_from.Statement.{statement}
 use Rattle.bits.proofs.least_from.Tie as tie
 
 abbrev Inv-loop : tie.InvT-loop
-Inv-loop sets k bound i₀ b m i = (i ≤ setWords) × ((bound ≤ wordBits * i) × Clear sets k bound i)
+Inv-loop sets k bound i₀ b m i = (i ≤ setWords) × (bound ≤ wordBits * i) × Clear sets k bound i
 
 abbrev μ-loop : tie.MeasureT-loop
 μ-loop sets k bound i₀ b m i = setWords - i
 
 returns : tie.Need-returns Inv-loop μ-loop
-returns c = least-none (c .before .args .sets .now) (c .before .args .k) (c .before .args .bound) (c .before .args .bound / wordBits) (omega arith) (clear-start (c .before .args .sets .now) (c .before .args .k) (c .before .args .bound))
+returns c =
+    let g = c .before .before .args in
+    let i : ℕ = g .bound / wordBits in
+    least-none (g .sets .now) (g .k) (g .bound) i (omega arith) (clear-start (g .sets .now) (g .k) (g .bound))
 
 mul-m : tie.Need-mul-m Inv-loop μ-loop
 mul-m c = search needs
@@ -41,26 +43,28 @@ shl-m c = search needs
 mul-result : tie.Need-mul-result Inv-loop μ-loop
 mul-result c = search needs
 
-cast-result : tie.Need-cast-result Inv-loop μ-loop
-cast-result c = let n : ℕ = getD (c .before .before .before .args .sets .now) (setWords * c .before .before .before .args .k + c .before .before .before .args .bound / wordBits) 0 in let b : ℕ = c .before .before .before .args .bound % wordBits in omega (arith, trailing-le wordBits (n / 2 ^ b * 2 ^ b % 2 ^ wordBits))
+lowest-bit-requires : tie.Need-lowest-bit-requires Inv-loop μ-loop
+lowest-bit-requires c κs = search needs
 
 add-result : tie.Need-add-result Inv-loop μ-loop
-add-result c = let n : ℕ = getD (c .before .before .before .args .sets .now) (setWords * c .before .before .before .args .k + c .before .before .before .args .bound / wordBits) 0 in let b : ℕ = c .before .before .before .args .bound % wordBits in omega (arith, trailing-le wordBits (n / 2 ^ b * 2 ^ b % 2 ^ wordBits))
+add-result c = search needs
 
 returns-2 : tie.Need-returns-2 Inv-loop μ-loop
 returns-2 c =
-    let g = c .before .before .before .args in
+    let g = c .before .before .before .before .before .args in
     let i : ℕ = g .bound / wordBits in
-    least-here (g .sets .now) (g .k) (g .bound) i _ (clear-start (g .sets .now) (g .k) (g .bound)) (omega arith) (mask-first (g .sets .now) (g .k) (g .bound) i (omega arith) refl) (c .if2 .taken) (mod-lt _ (pow-pos wordBits))
+    let r = c .lowest-bit in
+    let v = lowest-at wordBits _ (r .result) (omega arith) (mod-lt _ (pow-pos wordBits)) (r .ensures .0) in
+    least-found (g .sets .now) (g .k) (g .bound) i _ (clear-start (g .sets .now) (g .k) (g .bound)) (omega arith) (mask-first (g .sets .now) (g .k) (g .bound) i (omega arith) refl) (r .result) v
 
 add-i : tie.Need-add-i Inv-loop μ-loop
 add-i c = search needs
 
 loop-holds : tie.Need-loop-holds Inv-loop μ-loop
 loop-holds c =
-    let g = c .before .before .before .args in
+    let g = c .before .before .before .before .args in
     let i : ℕ = g .bound / wordBits in
-    (omega arith, (omega arith, least-next (g .sets .now) (g .k) (g .bound) i _ (clear-start (g .sets .now) (g .k) (g .bound)) (omega arith) (mask-first (g .sets .now) (g .k) (g .bound) i (omega arith) refl) (c .if2 .left)))
+    (omega arith, omega arith, least-next (g .sets .now) (g .k) (g .bound) i _ (clear-start (g .sets .now) (g .k) (g .bound)) (omega arith) (mask-first (g .sets .now) (g .k) (g .bound) i (omega arith) refl) (c .if2 .left))
 
 mul-w : tie.Need-mul-w Inv-loop μ-loop
 mul-w c = search needs
@@ -77,17 +81,20 @@ shared-slice-read-w c = search needs
 mul-result-2 : tie.Need-mul-result-2 Inv-loop μ-loop
 mul-result-2 c = search needs
 
-cast-result-2 : tie.Need-cast-result-2 Inv-loop μ-loop
-cast-result-2 c = omega (arith, trailing-le wordBits (getD (c .before .before .before .before .before .before .before .args .sets .now) (setWords * c .before .before .before .before .before .before .before .args .k + c .before .before .before .loop .i) 0))
+lowest-bit-requires-2 : tie.Need-lowest-bit-requires-2 Inv-loop μ-loop
+lowest-bit-requires-2 c κs = search needs
 
 add-result-2 : tie.Need-add-result-2 Inv-loop μ-loop
-add-result-2 c = omega (arith, trailing-le wordBits (getD (c .before .before .before .before .before .before .before .args .sets .now) (setWords * c .before .before .before .before .before .before .before .args .k + c .before .before .before .loop .i) 0))
+add-result-2 c = search needs
 
 returns-3 : tie.Need-returns-3 Inv-loop μ-loop
 returns-3 c =
-    let g = c .before .before .before .before .before .before .before .args in
-    let l = c .before .before .before .loop in
-    least-here (g .sets .now) (g .k) (g .bound) (l .i) _ (l .inv .1 .1) (omega arith) (mask-later (g .sets .now) (g .k) (g .bound) (l .i) (omega arith) (l .inv .1 .0)) (c .if3 .taken) (c .before .shared-slice-known2 .given (setWords * g .k + l .i) .fits)
+    let g = c .before .before .before .before .before .before .before .before .before .args in
+    let l = c .before .before .before .before .loop in
+    let r = c .lowest-bit2 in
+    let f = c .before .before .shared-slice-known3 .given (setWords * g .k + l .i) .fits in
+    let v = lowest-at wordBits _ (r .result) (omega arith) f (r .ensures .0) in
+    least-found (g .sets .now) (g .k) (g .bound) (l .i) _ (l .inv .2) (omega arith) (mask-later (g .sets .now) (g .k) (g .bound) (l .i) (omega arith) (l .inv .1)) (r .result) v
 
 add-i-2 : tie.Need-add-i-2 Inv-loop μ-loop
 add-i-2 c = search needs
@@ -97,12 +104,15 @@ loop-less c = search needs
 
 loop-again : tie.Need-loop-again Inv-loop μ-loop
 loop-again c =
-    let g = c .before .before .before .before .before .before .before .args in
+    let g = c .before .before .before .before .before .before .before .before .args in
     let l = c .before .before .before .loop in
-    (omega arith, (omega arith, least-next (g .sets .now) (g .k) (g .bound) (l .i) _ (l .inv .1 .1) (omega arith) (mask-later (g .sets .now) (g .k) (g .bound) (l .i) (omega arith) (l .inv .1 .0)) (c .if3 .left)))
+    (omega arith, omega arith, least-next (g .sets .now) (g .k) (g .bound) (l .i) _ (l .inv .2) (omega arith) (mask-later (g .sets .now) (g .k) (g .bound) (l .i) (omega arith) (l .inv .1)) (c .if3 .left))
 
 returns-4 : tie.Need-returns-4 Inv-loop μ-loop
-returns-4 c = least-none (c .before .before .before .before .before .args .sets .now) (c .before .before .before .before .before .args .k) (c .before .before .before .before .before .args .bound) (c .before .loop .i) (omega arith) (c .before .loop .inv .1 .1)
+returns-4 c =
+    let g = c .before .before .before .before .before .before .args in
+    let l = c .before .loop in
+    least-none (g .sets .now) (g .k) (g .bound) (l .i) (omega arith) (l .inv .2)
 
 pub least-from-spec : {M : Type 1} → statement M
 least-from-spec =
@@ -118,7 +128,7 @@ least-from-spec =
     shr-m
     shl-m
     mul-result
-    cast-result
+    lowest-bit-requires
     add-result
     returns-2
     add-i
@@ -128,7 +138,7 @@ least-from-spec =
     mul-w-2
     shared-slice-read-w
     mul-result-2
-    cast-result-2
+    lowest-bit-requires-2
     add-result-2
     returns-3
     add-i-2

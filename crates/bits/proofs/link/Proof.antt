@@ -1,9 +1,9 @@
 use borrow.Author.Needs.{needs}
-use mathlib.Core.Path.{_≡_, refl, sym, _∙_}
-use mathlib.Core.Bool.{Bool, false, _||_, _&&_}
-use Prim.Native.Nat.{ℕ, _+_, _*_, _^_, _-_, _<_, _≤_}
+use mathlib.Core.Path.{_≡_, refl}
+use mathlib.Core.Bool.{_||_, _&&_}
+use Prim.Native.Nat.{ℕ, _+_, _*_, _-_, _≤_}
 use native.Mathlib.Omega.{arith}
-use lib.ListN.{length, getD}
+use lib.ListN.{length}
 use lib.Dec.{ltb}
 use Rattle.bits.specs.Sets.{setWords, wordBits, has}
 use Rattle.bits.proofs.Members.{words-start, words-turn, words-end}
@@ -11,13 +11,15 @@ use Rattle.bits.proofs.link.Statement.{statement}
 use Rattle.bits.proofs.link.Tie as tie
 
 abbrev Inv-loop : tie.InvT-loop
-Inv-loop table₀ from k to j i₀ table i = (i ≤ setWords) × ((length table ≡ length table₀) × ((p x : ℕ) → has table p x ≡ (has table₀ p x || (ltb p (wordBits * i) && has from k p) && has to j x)))
+Inv-loop table₀ from k to j i₀ table i = (i ≤ setWords) × (length table ≡ length table₀) × ((p x : ℕ) → has table p x ≡ (has table₀ p x || (ltb p (wordBits * i) && has from k p) && has to j x))
 
 abbrev μ-loop : tie.MeasureT-loop
 μ-loop table₀ from k to j i₀ table i = setWords - i
 
 loop-holds : tie.Need-loop-holds Inv-loop μ-loop
-loop-holds c = (omega arith, (refl, λ p x. words-start p (has (c .before .before .before .args .table .now) p x) (has (c .before .before .before .args .from .now) (c .before .before .before .args .k) p) (has (c .before .before .before .args .to .now) (c .before .before .before .args .j) x)))
+loop-holds c =
+    let g = c .before .before .before .args in
+    (omega arith, refl, λ p x. words-start p (has (g .table .now) p x) (has (g .from .now) (g .k) p) (has (g .to .now) (g .j) x))
 
 mul-link-word : tie.Need-mul-link-word Inv-loop μ-loop
 mul-link-word c = search needs
@@ -49,7 +51,7 @@ loop-again c =
     let l = c .before .before .before .before .before .before .loop in
     let w = c .before .before .link-word in
     let f = c .before .before .before .shared-slice-known3 .given (setWords * g .k + l .i) .fits in
-    (omega arith, (omega arith, words-turn (g .table .now) (l .table) (w .last .0) (g .from .now) (g .k) (l .i) (has (g .to .now) (g .j)) (omega arith) f (l .inv .1 .1) (w .ensures)))
+    (omega arith, omega arith, words-turn (g .table .now) (l .table) (w .last .0) (g .from .now) (g .k) (l .i) (has (g .to .now) (g .j)) (omega arith) f (l .inv .2) (w .ensures))
 
 same-length : tie.Need-same-length Inv-loop μ-loop
 same-length c = search needs
@@ -58,7 +60,7 @@ returns : tie.Need-returns Inv-loop μ-loop
 returns c =
     let g = c .before .before .before .before .before .args in
     let l = c .before .loop in
-    λ p x. rw (words-end (g .from .now) (g .k) (l .i) p (omega arith)) at (l .inv .1 .1 p x)
+    λ p x. rw (words-end (g .from .now) (g .k) (l .i) p (omega arith)) at (l .inv .2 p x)
 
 pub link-spec : {M : Type 1} → statement M
 link-spec =

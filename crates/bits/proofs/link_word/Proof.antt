@@ -1,49 +1,49 @@
 use borrow.Author.Needs.{needs}
 use mathlib.Core.Path.{_≡_, refl, sym, _∙_}
-use mathlib.Core.Bool.{Bool, false, _||_, _&&_}
-use Prim.Native.Nat.{ℕ, _+_, _*_, _^_, _-_, _<_, _≤_}
+use mathlib.Core.Bool.{_||_, _&&_}
+use Prim.Native.Nat.{ℕ, _^_, _-_, _<_}
 use native.Mathlib.Omega.{arith}
 use lib.Bits.{and-le-r}
-use lib.Count.{trailingZeros, trailing-le}
 use lib.ListN.{length}
-use Rattle.bits.specs.Sets.{wordBits, has, inWord}
-use Rattle.bits.proofs.Bits.{lowest}
+use Rattle.bits.specs.Sets.{wordBits, has}
+use Rattle.bits.specs.Words.{inWord}
+use Rattle.bits.proofs.Bits.{lowest-at}
 use Rattle.bits.proofs.Members.{link-turn, link-end}
 use Rattle.bits.proofs.link_word.Statement.{statement}
 use Rattle.bits.proofs.link_word.Tie as tie
 
 abbrev Inv-loop : tie.InvT-loop
-Inv-loop table₀ base from to j m₀ table m = (m < 2 ^ wordBits) × ((length table ≡ length table₀) × ((p x : ℕ) → (has table p x || inWord base m p && has to j x) ≡ (has table₀ p x || inWord base from p && has to j x)))
+Inv-loop table₀ base from to j m₀ table m = (m < 2 ^ wordBits) × (length table ≡ length table₀) × ((p x : ℕ) → (has table p x || inWord base m p && has to j x) ≡ (has table₀ p x || inWord base from p && has to j x))
 
 abbrev μ-loop : tie.MeasureT-loop
 μ-loop table₀ base from to j m₀ table m = m
 
 loop-holds : tie.Need-loop-holds Inv-loop μ-loop
-loop-holds c = (omega arith, (refl, λ p x. refl))
+loop-holds c = (omega arith, refl, λ p x. refl)
 
-cast-i : tie.Need-cast-i Inv-loop μ-loop
-cast-i c = omega (arith, trailing-le wordBits (c .before .loop .m))
+lowest-bit-requires : tie.Need-lowest-bit-requires Inv-loop μ-loop
+lowest-bit-requires c κs = search needs
 
 add-join : tie.Need-add-join Inv-loop μ-loop
-add-join c = omega (arith, trailing-le wordBits (c .before .before .loop .m))
+add-join c = search needs
 
 join-requires : tie.Need-join-requires Inv-loop μ-loop
-join-requires c κs = let v = lowest wordBits (c .before .before .loop .m) (omega arith) (c .before .before .loop .inv .0) in omega arith
+join-requires c κs = search needs
 
 sub-m : tie.Need-sub-m Inv-loop μ-loop
-sub-m c = omega arith
+sub-m c = search needs
 
 loop-less : tie.Need-loop-less Inv-loop μ-loop
-loop-less c = let m = c .before .before .before .before .before .loop .m in omega (arith, and-le-r m (m - 1))
+loop-less c = let m = c .before .before .before .before .before .before .loop .m in omega (arith, and-le-r m (m - 1))
 
 loop-again : tie.Need-loop-again Inv-loop μ-loop
 loop-again c =
-    let g = c .before .before .before .before .before .before .before .before .args in
-    let l = c .before .before .before .before .before .loop in
-    let k = c .before .before .join in
-    let m = l .m in
-    let h = link-turn (l .table) (k .last .0) (g .base) m (trailingZeros wordBits m) (has (g .to .now) (g .j)) (lowest wordBits m (omega arith) (l .inv .0)) (k .ensures) in
-    (omega (arith, and-le-r m (m - 1)), (omega arith, λ p x. h p x ∙ l .inv .1 .1 p x))
+    let g = c .before .before .before .before .before .before .before .before .before .args in
+    let l = c .before .before .before .before .before .before .loop in
+    let r = c .before .before .before .before .lowest-bit in
+    let n = c .before .before .join in
+    let h = link-turn (l .table) (n .last .0) (g .base) (l .m) (r .result) (has (g .to .now) (g .j)) (lowest-at wordBits (l .m) (r .result) (omega arith) (l .inv .0) (r .ensures .0)) (n .ensures) in
+    (omega (arith, and-le-r (l .m) (l .m - 1)), omega arith, λ p x. h p x ∙ l .inv .2 p x)
 
 same-length : tie.Need-same-length Inv-loop μ-loop
 same-length c = search needs
@@ -53,7 +53,7 @@ returns c =
     let g = c .before .before .before .before .args in
     let l = c .before .loop in
     let e : l .m ≡ 0 = omega arith in
-    λ p x. sym (link-end (g .base) p _ (has (g .to .now) (g .j) x)) ∙ rw e at (l .inv .1 .1 p x)
+    λ p x. sym (link-end (g .base) p _ (has (g .to .now) (g .j) x)) ∙ rw e at (l .inv .2 p x)
 
 pub link-word-spec : {M : Type 1} → statement M
 link-word-spec =
@@ -62,7 +62,7 @@ link-word-spec =
     Inv-loop
     μ-loop
     loop-holds
-    cast-i
+    lowest-bit-requires
     add-join
     join-requires
     sub-m

@@ -1,6 +1,6 @@
 use borrow.Author.Needs.{needs}
-use mathlib.Core.Path.{_≡_, refl, sym, _∙_}
-use Prim.Native.Nat.{ℕ, _+_, _*_, _/_, _%_, _^_, _-_, _<_, _≤_}
+use mathlib.Core.Path.{refl}
+use Prim.Native.Nat.{_-_}
 use native.Mathlib.Omega.{arith}
 use Rattle.bits.specs.Sets.{setWords, rowHas}
 use Rattle.bits.proofs.Stores.{Done, done-start, done-front, done-end}
@@ -39,13 +39,17 @@ loop-again : tie.Need-loop-again Inv-loop μ-loop
 loop-again c =
     let g = c .before .before .before .before .before .args in
     let l = c .before .before .loop in
-    done-front (l .inv) _ refl (omega arith) (omega arith) (row-word (g .row .now) (l .i) _ (omega arith) (c .get-word .ensures))
+    let w = c .get-word in
+    done-front (l .inv) _ refl (omega arith) (omega arith) (row-word (g .row .now) (l .i) _ (omega arith) (w .ensures))
 
 same-length : tie.Need-same-length Inv-loop μ-loop
 same-length c = search needs
 
 returns : tie.Need-returns Inv-loop μ-loop
-returns c = done-end (c .before .loop .inv) (omega arith) (row-out (c .before .before .before .before .args .row .now)) 0
+returns c =
+    let g = c .before .before .before .before .args in
+    let l = c .before .loop in
+    done-end (l .inv) (omega arith) (row-out (g .row .now)) 0
 
 pub load-row-spec : {M : Type 1} → statement M
 load-row-spec =

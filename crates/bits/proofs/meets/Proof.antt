@@ -1,5 +1,5 @@
 use borrow.Author.Needs.{needs}
-use mathlib.Core.Path.{_≡_, refl, sym, _∙_}
+use mathlib.Core.Path.{_≡_}
 use Prim.Native.Nat.{ℕ, _+_, _*_, _^_, _-_, _<_, _≤_}
 use native.Mathlib.Omega.{arith}
 use lib.Bits.{or-lt, and-lt}
@@ -9,13 +9,15 @@ use Rattle.bits.proofs.meets.Statement.{statement}
 use Rattle.bits.proofs.meets.Tie as tie
 
 abbrev Inv-loop : tie.InvT-loop
-Inv-loop a j b k both₀ i₀ both i = (i ≤ setWords) × ((both < 2 ^ wordBits) × ((n : ℕ) → bit both n ≡ someBelow (inBoth a j b k n) i))
+Inv-loop a j b k both₀ i₀ both i = (i ≤ setWords) × (both < 2 ^ wordBits) × ((n : ℕ) → bit both n ≡ someBelow (inBoth a j b k n) i)
 
 abbrev μ-loop : tie.MeasureT-loop
 μ-loop a j b k both₀ i₀ both i = setWords - i
 
 loop-holds : tie.Need-loop-holds Inv-loop μ-loop
-loop-holds c = (omega arith, (omega arith, both-start (c .args .a .now) (c .args .j) (c .args .b .now) (c .args .k)))
+loop-holds c =
+    let g = c .args in
+    (omega arith, omega arith, both-start (g .a .now) (g .j) (g .b .now) (g .k))
 
 mul-both : tie.Need-mul-both Inv-loop μ-loop
 mul-both c = search needs
@@ -53,14 +55,14 @@ loop-again c =
     let l = c .before .before .before .loop in
     let f = c .before .shared-slice-known .given (setWords * g .j + l .i) .fits in
     let h = c .shared-slice-known2 .given (setWords * g .k + l .i) .fits in
-    (omega arith, (or-lt wordBits _ _ (l .inv .1 .0) (and-lt wordBits _ _ f h), both-turn (g .a .now) (g .j) (g .b .now) (g .k) (l .both) (l .i) (l .inv .1 .1)))
+    (omega arith, or-lt wordBits _ _ (l .inv .1) (and-lt wordBits _ _ f h), both-turn (g .a .now) (g .j) (g .b .now) (g .k) (l .both) (l .i) (l .inv .2))
 
 returns : tie.Need-returns Inv-loop μ-loop
 returns c =
     let g = c .before .before .args in
     let l = c .before .loop in
     let e : l .i ≡ setWords = omega arith in
-    both-end (g .a .now) (g .j) (g .b .now) (g .k) (l .both) (l .inv .1 .0) (rw e at (l .inv .1 .1))
+    both-end (g .a .now) (g .j) (g .b .now) (g .k) (l .both) (l .inv .1) (rw e at (l .inv .2))
 
 pub meets-spec : {M : Type 1} → statement M
 meets-spec =

@@ -1,6 +1,5 @@
 use borrow.Author.Needs.{needs}
-use mathlib.Core.Path.{_≡_, refl, sym, _∙_}
-use Prim.Native.Nat.{ℕ, _+_, _*_, _/_, _%_, _^_, _-_, _<_, _≤_}
+use Prim.Native.Nat.{_-_}
 use native.Mathlib.Omega.{arith}
 use Rattle.bits.specs.Sets.{wordBytes}
 use Rattle.bits.proofs.Bytes.{Putting, put-start, put-turn, put-end}
@@ -14,7 +13,9 @@ abbrev μ-loop : tie.MeasureT-loop
 μ-loop row₀ at x i₀ row i = wordBytes - i
 
 loop-holds : tie.Need-loop-holds Inv-loop μ-loop
-loop-holds c = put-start (c .before .args .row .now) (c .before .args .at) (c .before .args .x)
+loop-holds c =
+    let g = c .before .args in
+    put-start (g .row .now) (g .at) (g .x)
 
 add-p : tie.Need-add-p Inv-loop μ-loop
 add-p c = search needs

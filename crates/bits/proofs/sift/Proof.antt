@@ -1,7 +1,7 @@
 use borrow.Author.Needs.{needs}
-use mathlib.Core.Path.{_≡_, refl, sym, _∙_}
-use mathlib.Core.Bool.{Bool, false, _||_, _&&_}
-use Prim.Native.Nat.{ℕ, _+_, _*_, _^_, _-_, _<_, _≤_}
+use mathlib.Core.Path.{refl}
+use mathlib.Core.Bool.{_&&_}
+use Prim.Native.Nat.{_-_}
 use native.Mathlib.Omega.{arith}
 use Rattle.bits.specs.Sets.{setWords, has, share}
 use Rattle.bits.proofs.Stores.{Done, done-start, done-front, done-end, tested-word, has-out}
@@ -59,7 +59,8 @@ same-length c = search needs
 returns : tie.Need-returns Inv-loop μ-loop
 returns c =
     let g = c .before .before .before .before .before .before .args in
-    λ x. done-end (c .before .loop .inv) (omega arith) (λ x h. rw (has-out (g .from .now) (g .j) x h) refl) 0 x
+    let l = c .before .loop in
+    done-end (l .inv) (omega arith) (λ x h. rw (has-out (g .from .now) (g .j) x h) refl) 0
 
 pub sift-spec : {M : Type 1} → statement M
 sift-spec =

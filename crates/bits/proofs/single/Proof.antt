@@ -26,7 +26,10 @@ same-length : tie.Need-same-length
 same-length c = search needs
 
 returns : tie.Need-returns
-returns c = singled (c .before .before .before .before .before .args .sets .now) (c .before .before .clear .last .0) (c .before .before .before .before .before .args .k) (c .before .before .before .before .before .args .q) (omega arith) (omega arith) (c .before .before .clear .ensures)
+returns c =
+    let g = c .before .before .before .before .before .args in
+    let r = c .before .before .clear in
+    singled (g .sets .now) (r .last .0) (g .k) (g .q) (omega arith) (omega arith) (r .ensures)
 
 pub single-spec : {M : Type 1} → statement M
 single-spec =

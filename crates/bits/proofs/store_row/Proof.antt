@@ -1,6 +1,5 @@
 use borrow.Author.Needs.{needs}
-use mathlib.Core.Path.{_≡_, refl, sym, _∙_}
-use Prim.Native.Nat.{ℕ, _+_, _*_, _/_, _%_, _^_, _-_, _<_, _≤_}
+use Prim.Native.Nat.{_-_}
 use native.Mathlib.Omega.{arith}
 use Rattle.bits.specs.Sets.{setWords}
 use Rattle.bits.proofs.Bytes.{Storing, store-start, store-turn, store-end}
@@ -14,7 +13,9 @@ abbrev μ-loop : tie.MeasureT-loop
 μ-loop row₀ from i₀ row i = setWords - i
 
 loop-holds : tie.Need-loop-holds Inv-loop μ-loop
-loop-holds c = store-start (c .before .before .args .row .now) (c .before .before .args .from .now)
+loop-holds c =
+    let g = c .before .before .args in
+    store-start (g .row .now) (g .from .now)
 
 mul-put-word : tie.Need-mul-put-word Inv-loop μ-loop
 mul-put-word c = search needs

@@ -1,0 +1,78 @@
+#!/usr/bin/env bash
+# bench/run.sh [ARCHIVE_DIR]: counts instructions (callgrind) and times pathological expressions for PCRE2 and RE2, and
+# with ARCHIVE_DIR/libsatchelram.a for our calls, whose stack it measures too. Never a test; RESULTS.md says what is
+# counted and why.
+# x86-64 only: a count under an emulator or of another build says nothing about the archive.
+set -euo pipefail
+
+stop() {
+    echo "bench/run.sh: $1" >&2
+    exit 1
+}
+
+[ $# -le 1 ] || stop "usage: bench/run.sh [ARCHIVE_DIR]"
+[ "$(uname -m)" = x86_64 ] || stop "the archive is x86-64, this machine is not"
+archive=''
+if [ $# -eq 1 ]; then
+    archive=$(cd "$1" && pwd)/libsatchelram.a
+    [ -f "$archive" ] || stop "no archive at $archive"
+fi
+cd "$(dirname "$0")"
+
+for package in gcc g++ libpcre2-dev libre2-dev valgrind; do
+    dpkg -s "$package" >/dev/null 2>&1 || missing="${missing:-} $package"
+done
+if [ -n "${missing:-}" ]; then
+    apt-get update -qq || stop "apt-get update failed"
+    # shellcheck disable=SC2086 # the packages are words
+    apt-get install -y -qq $missing || stop "could not install$missing"
+fi
+
+out=$(mktemp -d)
+trap 'rm -rf "$out"' EXIT
+flags=(-O2 -Wall -Wextra -Werror -I ../include -I .)
+
+# All symbols are bound at the start, so that no count holds the dynamic linker's work.
+gcc "${flags[@]}" -std=c99 -c bench.c -o "$out/bench.o"
+gcc "${flags[@]}" -std=c99 pcre2.c "$out/bench.o" -Wl,-z,now -lpcre2-8 -o "$out/pcre2"
+g++ "${flags[@]}" re2.cc "$out/bench.o" -Wl,-z,now -lre2 -o "$out/re2"
+engines=(pcre2 re2)
+if [ -n "$archive" ]; then
+    gcc "${flags[@]}" -std=c99 ours.c "$out/bench.o" "$archive" -Wl,-z,now -o "$out/ours"
+    engines=(ours pcre2 re2)
+fi
+
+# count ENGINE WORK [plain]: instructions of one `measured_..` call
+count() {
+    local function=measured_read log=$out/$1.$2.log
+    [ "$2" != once ] || function=measured_once
+    valgrind --tool=callgrind --callgrind-out-file=/dev/null --toggle-collect="$function" "$out/$1" "${@:2}" >"$log" 2>&1 ||
+        stop "$1 $2 failed: $(cat "$log")"
+    sed -n 's/.*Collected : \([0-9]*\).*/\1/p' "$log"
+}
+
+# line TITLE ENGINE [plain]
+line() {
+    local title=$1 engine=$2
+    shift 2
+    printf '%-24s %10s %10s %10s\n' "$title" "$(count "$engine" once "$@")" "$(count "$engine" name "$@")" "$(count "$engine" dropped "$@")"
+}
+
+echo "instructions, 119 leaves, 16-byte name"
+printf '%-24s %10s %10s %10s\n' "" once name dropped
+[ -z "$archive" ] || line "satchelram, positions" ours
+line "PCRE2, positions" pcre2
+line "RE2, positions" re2
+line "PCRE2, yes or no" pcre2 plain
+line "RE2, yes or no" re2 plain
+echo
+echo "pathological expressions, a 255-byte name, microseconds (least of 20)"
+for engine in "${engines[@]}"; do
+    "$out/$engine" wild
+done
+if [ -n "$archive" ]; then
+    echo
+    echo "stack of a call on large inputs"
+    gcc "${flags[@]}" -std=gnu99 stack.c "$archive" -Wl,-z,now -o "$out/stack"
+    "$out/stack"
+fi

@@ -1,0 +1,22 @@
+use borrow.Author.Needs.{needs}
+use Rattle.emission.proofs.Stores.{op-yes, op-no}
+use Rattle.emission.proofs.emit_if.Statement.{statement}
+use Rattle.emission.proofs.emit_if.Tie as tie
+
+emit-requires : tie.Need-emit-requires
+emit-requires c κs = search needs
+
+add-result : tie.Need-add-result
+add-result c = search needs
+
+same-length : tie.Need-same-length
+same-length c = search needs
+
+returns : tie.Need-returns
+returns c = let g = (c .before .before .before .before .before .before .args) in op-yes (g .n) (g .nodes .now) ((c .before .before .emit) .last .0) (g .b) (g .again) ((c .before .before .before .before .if1) .taken) ((c .before .before .emit) .ensures)
+
+returns-2 : tie.Need-returns-2
+returns-2 c = let g = (c .before .before .args) in op-no (g .n) (g .nodes .now) (g .b) (g .again) ((c .if1) .left)
+
+pub emit-if-spec : {M : Type 1} → statement M
+emit-if-spec = tie.close (tie.spec emit-requires add-result same-length returns returns-2)

@@ -1,0 +1,70 @@
+use borrow.Author.Needs.{needs}
+use native.Mathlib.Omega.{arith}
+use Rattle.maker.proofs.Call.{call-leaves, call-nodes, call-short, call-made}
+use Rattle.maker.proofs.answer.Statement.{statement}
+use Rattle.maker.proofs.answer.Tie as tie
+
+passing-place-requires : tie.Need-passing-place-requires
+passing-place-requires c κs = search needs
+
+refuse-requires : tie.Need-refuse-requires
+refuse-requires c κs = search needs
+
+same-length : tie.Need-same-length
+same-length c = search needs
+
+returns : tie.Need-returns
+returns c = λ xs bs v. call-leaves ((c .before .before .before .before .before .before .before .before .before .before .args) .text .now) ((c .before .before .before .before .before .before .before .before .before .before .args) .sheet .now) xs ((c .before .before .before .before .before .before .before .before .before .before .args) .nodes .now) bs ((c .before .before .before .before .before .before .before .before .before .before .args) .lits .now) ((c .before .before .before .before .before .before .before .before .before .before .args) .m) ((c .before .before .before .before .before .before .before .before .before .before .args) .l) ((c .before .before .before .before .before .before .before .before .before .before .pre) .0) v ((c .before .before .refuse) .result) ((c .before .before .refuse) .last .0) ((c .before .before .before .before .passing-place) .result) ((c .before .before .before .before .before .if1) .taken) ((c .before .before .before .before .passing-place) .ensures) ((c .before .before .refuse) .ensures .0) ((c .before .before .refuse) .ensures .1)
+
+refuse-requires-2 : tie.Need-refuse-requires-2
+refuse-requires-2 c κs = search needs
+
+same-length-2 : tie.Need-same-length-2
+same-length-2 c = search needs
+
+returns-2 : tie.Need-returns-2
+returns-2 c = λ xs bs v. call-nodes ((c .before .before .before .before .before .before .before .before .before .before .args) .text .now) ((c .before .before .before .before .before .before .before .before .before .before .args) .sheet .now) xs ((c .before .before .before .before .before .before .before .before .before .before .args) .nodes .now) bs ((c .before .before .before .before .before .before .before .before .before .before .args) .lits .now) ((c .before .before .before .before .before .before .before .before .before .before .args) .m) ((c .before .before .before .before .before .before .before .before .before .before .args) .l) ((c .before .before .before .before .before .before .before .before .before .before .pre) .0) v ((c .before .before .before .before .before .if1) .left) ((c .before .before .refuse2) .result) ((c .before .before .refuse2) .last .0) ((c .before .before .before .before .if2) .taken) ((c .before .before .refuse2) .ensures .0) ((c .before .before .refuse2) .ensures .1)
+
+add-needed : tie.Need-add-needed
+add-needed c = search needs
+
+add-needed-2 : tie.Need-add-needed-2
+add-needed-2 c = search needs
+
+refuse-requires-3 : tie.Need-refuse-requires-3
+refuse-requires-3 c κs = search needs
+
+same-length-3 : tie.Need-same-length-3
+same-length-3 c = search needs
+
+returns-3 : tie.Need-returns-3
+returns-3 c = λ xs bs v. call-short ((c .before .before .before .before .before .before .before .before .before .before .before .args) .text .now) ((c .before .before .before .before .before .before .before .before .before .before .before .args) .sheet .now) xs ((c .before .before .before .before .before .before .before .before .before .before .before .args) .nodes .now) bs ((c .before .before .before .before .before .before .before .before .before .before .before .args) .lits .now) ((c .before .before .before .before .before .before .before .before .before .before .before .args) .m) ((c .before .before .before .before .before .before .before .before .before .before .before .args) .l) ((c .before .before .before .before .before .before .before .before .before .before .before .pre) .0) v ((c .before .before .before .before .before .before .if1) .left) ((c .before .before .before .before .before .if2) .left) ((c .before .before .refuse3) .result) ((c .before .before .refuse3) .last .0) ((c .before .before .before .before .if3) .taken) ((c .before .before .refuse3) .ensures .0) ((c .before .before .refuse3) .ensures .1)
+
+lay-requires : tie.Need-lay-requires
+lay-requires c κs = (omega (arith, (c .before .before .before .before .before .before .before .before .pre) .1, (c .before .before .before .if1) .left), (c .before .before .before .if1) .left, omega (arith, (c .before .before .before .before .before .before .before .before .pre) .2, (c .before .before .if2) .left), (c .before .before .if2) .left, (c .before .if3) .left)
+
+same-length-4 : tie.Need-same-length-4
+same-length-4 c = search needs
+
+returns-4 : tie.Need-returns-4
+returns-4 c = λ xs bs v. call-made ((c .before .before .before .before .before .before .before .before .before .before .before .args) .text .now) ((c .before .before .before .before .before .before .before .before .before .before .before .args) .sheet .now) xs ((c .before .before .before .before .before .before .before .before .before .before .before .args) .nodes .now) bs ((c .before .before .before .before .before .before .before .before .before .before .before .args) .lits .now) ((c .before .before .before .before .before .before .before .before .before .before .before .args) .m) ((c .before .before .before .before .before .before .before .before .before .before .before .args) .l) ((c .before .before .before .before .before .before .before .before .before .before .before .pre) .0) v ((c .before .before .before .before .before .before .if1) .left) ((c .before .before .before .before .before .if2) .left) ((c .before .before .lay) .last .0) ((c .before .before .before .before .before .before .before .before .before .before .before .pre) .1) ((c .before .before .before .before .before .before .before .before .before .before .before .pre) .2) ((c .before .before .before .before .if3) .left) ((c .before .before .lay) .ensures)
+
+pub answer-spec : {M : Type 1} → statement M
+answer-spec =
+    tie.close
+    (tie.spec
+    passing-place-requires
+    refuse-requires
+    same-length
+    returns
+    refuse-requires-2
+    same-length-2
+    returns-2
+    add-needed
+    add-needed-2
+    refuse-requires-3
+    same-length-3
+    returns-3
+    lay-requires
+    same-length-4
+    returns-4)

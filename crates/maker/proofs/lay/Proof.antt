@@ -1,0 +1,69 @@
+use Prim.Native.Nat.{_+_}
+use borrow.Author.Needs.{needs}
+use lib.ListN.{length-set, set}
+use mathlib.Core.Path.{refl}
+use native.Mathlib.Omega.{arith}
+use Rattle.maker.proofs.Laid.{laid-filled, laid}
+use Rattle.maker.proofs.lay.Statement.{statement}
+use Rattle.maker.proofs.lay.Tie as tie
+
+slice-write-sheet : tie.Need-slice-write-sheet
+slice-write-sheet c = search needs
+
+cast-sheet : tie.Need-cast-sheet
+cast-sheet c = search needs
+
+slice-write-sheet-2 : tie.Need-slice-write-sheet-2
+slice-write-sheet-2 c = simp length-set (omega (arith, (c .before .before .before .pre) .4))
+
+copy-in-requires : tie.Need-copy-in-requires
+copy-in-requires c κs = ((c .before .before .before .before .pre) .0, simp length-set (omega (arith, (c .before .before .before .before .pre) .4)))
+
+cast-sheet-2 : tie.Need-cast-sheet-2
+cast-sheet-2 c = search needs
+
+add-sheet : tie.Need-add-sheet
+add-sheet c = search needs
+
+slice-write-sheet-3 : tie.Need-slice-write-sheet-3
+slice-write-sheet-3 c = omega (arith, (c .before .before .copy-in) .kept, length-set ((c .before .before .before .before .before .before .before .args) .sheet .now) 0 1, length-set (set ((c .before .before .before .before .before .before .before .args) .sheet .now) 0 1) 1 ((c .before .before .before .before .before .before .before .args) .l), (c .before .before .before .before .before .before .before .pre) .4)
+
+add-copy-in : tie.Need-add-copy-in
+add-copy-in c = search needs
+
+copy-in-requires-2 : tie.Need-copy-in-requires-2
+copy-in-requires-2 c κs = ((c .before .before .before .before .before .before .before .before .pre) .2, simp length-set (omega (arith, (c .before .before .before .copy-in) .kept, length-set ((c .before .before .before .before .before .before .before .before .args) .sheet .now) 0 1, length-set (set ((c .before .before .before .before .before .before .before .before .args) .sheet .now) 0 1) 1 ((c .before .before .before .before .before .before .before .before .args) .l), (c .before .before .before .before .before .before .before .before .pre) .4)))
+
+add-wipe-from : tie.Need-add-wipe-from
+add-wipe-from c = search needs
+
+add-wipe-from-2 : tie.Need-add-wipe-from-2
+add-wipe-from-2 c = search needs
+
+wipe-from-requires : tie.Need-wipe-from-requires
+wipe-from-requires c κs = omega (arith, (c .before .before .before .copy-in2) .kept, length-set ((c .before .before .before .before .before .before .before .copy-in) .last .0) (2 + ((c .before .before .before .before .before .before .before .before .before .before .before .before .args) .l)) ((c .before .before .before .before .before .before .before .before .before .before .before .before .args) .m), (c .before .before .before .before .before .before .before .copy-in) .kept, length-set ((c .before .before .before .before .before .before .before .before .before .before .before .before .args) .sheet .now) 0 1, length-set (set ((c .before .before .before .before .before .before .before .before .before .before .before .before .args) .sheet .now) 0 1) 1 ((c .before .before .before .before .before .before .before .before .before .before .before .before .args) .l), (c .before .before .before .before .before .before .before .before .before .before .before .before .pre) .4)
+
+same-length : tie.Need-same-length
+same-length c = omega (arith, (c .before .before .wipe-from) .kept, (c .before .before .before .before .before .before .copy-in2) .kept, length-set ((c .before .before .before .before .before .before .before .before .before .before .copy-in) .last .0) (2 + ((c .before .before .before .before .before .before .before .before .before .before .before .before .before .before .before .args) .l)) ((c .before .before .before .before .before .before .before .before .before .before .before .before .before .before .before .args) .m), (c .before .before .before .before .before .before .before .before .before .before .copy-in) .kept, length-set ((c .before .before .before .before .before .before .before .before .before .before .before .before .before .before .before .args) .sheet .now) 0 1, length-set (set ((c .before .before .before .before .before .before .before .before .before .before .before .before .before .before .before .args) .sheet .now) 0 1) 1 ((c .before .before .before .before .before .before .before .before .before .before .before .before .before .before .before .args) .l))
+
+returns : tie.Need-returns
+returns c = laid-filled ((c .before .before .before .before .before .before .before .before .before .before .before .before .before .before .before .args) .sheet .now) ((c .before .before .before .before .before .before .before .before .before .before .before .before .before .before .before .args) .lits .now) ((c .before .before .before .before .before .before .before .before .before .before .before .before .before .before .before .args) .l) ((c .before .before .before .before .before .before .before .before .before .before .before .before .before .before .before .args) .nodes .now) ((c .before .before .before .before .before .before .before .before .before .before .before .before .before .before .before .args) .m) ((c .before .before .before .before .before .before .before .before .before .before .before .before .before .before .before .pre) .0) ((c .before .before .before .before .before .before .before .before .before .before .before .before .before .before .before .pre) .2) ((c .before .before .before .before .before .before .copy-in2) .last .0) ((c .before .before .wipe-from) .last .0) ((c .before .before .before .before .before .before .before .before .before .before .before .before .before .before .before .pre) .4) (laid ((c .before .before .before .before .before .before .before .before .before .before .before .before .before .before .before .args) .sheet .now) ((c .before .before .before .before .before .before .before .before .before .before .before .before .before .before .before .args) .lits .now) ((c .before .before .before .before .before .before .before .before .before .before .before .before .before .before .before .args) .l) ((c .before .before .before .before .before .before .before .before .before .before .before .before .before .before .before .args) .nodes .now) ((c .before .before .before .before .before .before .before .before .before .before .before .before .before .before .before .args) .m) ((c .before .before .before .before .before .before .before .before .before .before .before .before .before .before .before .pre) .0) ((c .before .before .before .before .before .before .before .before .before .before .before .before .before .before .before .pre) .2) (set ((c .before .before .before .before .before .before .before .before .before .before .before .before .before .before .before .args) .sheet .now) 0 1) (set (set ((c .before .before .before .before .before .before .before .before .before .before .before .before .before .before .before .args) .sheet .now) 0 1) 1 ((c .before .before .before .before .before .before .before .before .before .before .before .before .before .before .before .args) .l)) ((c .before .before .before .before .before .before .before .before .before .before .copy-in) .last .0) (set ((c .before .before .before .before .before .before .before .before .before .before .copy-in) .last .0) (2 + ((c .before .before .before .before .before .before .before .before .before .before .before .before .before .before .before .args) .l)) ((c .before .before .before .before .before .before .before .before .before .before .before .before .before .before .before .args) .m)) ((c .before .before .before .before .before .before .copy-in2) .last .0) refl refl ((c .before .before .before .before .before .before .before .before .before .before .copy-in) .ensures) refl ((c .before .before .before .before .before .before .copy-in2) .ensures)) ((c .before .before .wipe-from) .ensures)
+
+pub lay-spec : {M : Type 1} → statement M
+lay-spec =
+    tie.close
+    (tie.spec
+    slice-write-sheet
+    cast-sheet
+    slice-write-sheet-2
+    copy-in-requires
+    cast-sheet-2
+    add-sheet
+    slice-write-sheet-3
+    add-copy-in
+    copy-in-requires-2
+    add-wipe-from
+    add-wipe-from-2
+    wipe-from-requires
+    same-length
+    returns)

@@ -1,0 +1,70 @@
+use Prim.Native.Nat.{_≤_, _-_}
+use borrow.Author.Needs.{needs}
+use lib.ListN.{length}
+use mathlib.Core.Path.{refl, _≡_}
+use native.Mathlib.Omega.{arith}
+use Rattle.lexer.specs.Tokens.{tokensFrom}
+use Rattle.maker.proofs.Walks.{passes-none, passing-over, step-wrong, step-on, passes-here, passes-later, passes-end}
+use Rattle.rules.specs.Limits.{leafLimit}
+use Rattle.text.specs.Refusals.{passing}
+use Rattle.maker.proofs.passing_place.Statement.{statement}
+use Rattle.maker.proofs.passing_place.Tie as tie
+
+abbrev Inv-loop : tie.InvT-loop
+Inv-loop text i₀ n₀ i n =
+    (passing n (tokensFrom text i) ≡ passing 0 (tokensFrom text 0)) × (i ≤ length text) × (n ≤ leafLimit)
+
+abbrev μ-loop : tie.MeasureT-loop
+μ-loop text i₀ n₀ i n =
+    length text - i
+
+loop-holds : tie.Need-loop-holds Inv-loop μ-loop
+loop-holds c = (refl, omega arith, omega arith)
+
+step-over-requires : tie.Need-step-over-requires Inv-loop μ-loop
+step-over-requires c κs = search needs
+
+enum-known-s : tie.Need-enum-known-s Inv-loop μ-loop
+enum-known-s c = search needs
+
+enum-told : tie.Need-enum-told Inv-loop μ-loop
+enum-told c = search needs
+
+returns : tie.Need-returns Inv-loop μ-loop
+returns c = passes-none ((c .before .before .before .before .before .before .args) .text .now) ((c .before .before .before .before .loop) .i) ((c .before .before .before .before .loop) .n) ((c .before .before .before .before .loop) .inv .0) (passing-over ((c .before .before .before .before .loop) .n) ((c .before .before .before .before .before .before .args) .text .now) ((c .before .before .before .before .loop) .i) ((c .enum-told) .given .0 .0) ((c .before .before .before .before .loop) .inv .2) (step-wrong ((c .before .before .before .before .before .before .args) .text .now) ((c .before .before .before .before .loop) .i) ((c .before .before .step-over) .result) ((c .before .before .step-over) .ensures) ((c .enum-told) .given .0 .0) ((c .enum-told) .given .1)))
+
+add-if1 : tie.Need-add-if1 Inv-loop μ-loop
+add-if1 c = let v = step-on ((c .before .before .before .before .before .before .before .args) .text .now) ((c .before .before .before .before .before .loop) .i) ((c .before .before .before .step-over) .result) ((c .before .before .before .step-over) .ensures) ((c .before .s) .given .0 .0) ((c .before .s) .given .0 .1 .0) ((c .before .s) .given .1) in omega (arith, v .few, (c .before .before .before .before .before .loop) .inv .2)
+
+returns-2 : tie.Need-returns-2 Inv-loop μ-loop
+returns-2 c = passes-here ((c .before .before .before .before .before .before .before .before .args) .text .now) ((c .before .before .before .before .before .before .loop) .i) ((c .before .before .before .before .before .before .loop) .n) ((c .before .before .before .before .before .before .loop) .inv .0) ((c .before .before .s) .given .0 .0) ((c .before .before .s) .given .0 .1 .0) (step-on ((c .before .before .before .before .before .before .before .before .args) .text .now) ((c .before .before .before .before .before .before .loop) .i) ((c .before .before .before .before .step-over) .result) ((c .before .before .before .before .step-over) .ensures) ((c .before .before .s) .given .0 .0) ((c .before .before .s) .given .0 .1 .0) ((c .before .before .s) .given .1)) ((c .if1) .taken)
+
+add-n : tie.Need-add-n Inv-loop μ-loop
+add-n c = let v = step-on ((c .before .before .before .before .before .before .before .before .args) .text .now) ((c .before .before .before .before .before .before .loop) .i) ((c .before .before .before .before .step-over) .result) ((c .before .before .before .before .step-over) .ensures) ((c .before .before .s) .given .0 .0) ((c .before .before .s) .given .0 .1 .0) ((c .before .before .s) .given .1) in omega (arith, v .few, (c .before .before .before .before .before .before .loop) .inv .2)
+
+loop-less : tie.Need-loop-less Inv-loop μ-loop
+loop-less c = let v = step-on ((c .before .before .before .before .before .before .before .before .args) .text .now) ((c .before .before .before .before .before .before .loop) .i) ((c .before .before .before .before .step-over) .result) ((c .before .before .before .before .step-over) .ensures) ((c .before .before .s) .given .0 .0) ((c .before .before .s) .given .0 .1 .0) ((c .before .before .s) .given .1) in omega (arith, v .further, v .inside)
+
+loop-again : tie.Need-loop-again Inv-loop μ-loop
+loop-again c = let v = step-on ((c .before .before .before .before .before .before .before .before .args) .text .now) ((c .before .before .before .before .before .before .loop) .i) ((c .before .before .before .before .step-over) .result) ((c .before .before .before .before .step-over) .ensures) ((c .before .before .s) .given .0 .0) ((c .before .before .s) .given .0 .1 .0) ((c .before .before .s) .given .1) in (passes-later ((c .before .before .before .before .before .before .before .before .args) .text .now) ((c .before .before .before .before .before .before .loop) .i) ((c .before .before .before .before .before .before .loop) .n) ((c .before .before .before .before .before .before .loop) .inv .0) ((c .before .before .s) .given .0 .0) ((c .before .before .s) .given .0 .1 .0) v ((c .if1) .left), v .inside, (c .if1) .left)
+
+returns-3 : tie.Need-returns-3 Inv-loop μ-loop
+returns-3 c = passes-end ((c .before .before .before .args) .text .now) ((c .before .loop) .i) ((c .before .loop) .n) ((c .before .loop) .inv .0) (omega (arith, (c .loop-test) .left))
+
+pub passing-place-spec : {M : Type 1} → statement M
+passing-place-spec =
+    tie.close
+    (tie.spec
+    Inv-loop
+    μ-loop
+    loop-holds
+    step-over-requires
+    enum-known-s
+    enum-told
+    returns
+    add-if1
+    returns-2
+    add-n
+    loop-less
+    loop-again
+    returns-3)

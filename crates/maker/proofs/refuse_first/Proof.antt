@@ -1,0 +1,45 @@
+use borrow.Author.Needs.{needs}
+use Rattle.maker.proofs.Call.{call-grammatical, call-lexical}
+use Rattle.maker.proofs.refuse_first.Statement.{statement}
+use Rattle.maker.proofs.refuse_first.Tie as tie
+
+first-walk-requires : tie.Need-first-walk-requires
+first-walk-requires c κs = search needs
+
+enum-known-s : tie.Need-enum-known-s
+enum-known-s c = search needs
+
+refuse-requires : tie.Need-refuse-requires
+refuse-requires c κs = search needs
+
+same-length : tie.Need-same-length
+same-length c = search needs
+
+returns : tie.Need-returns
+returns c = λ p. call-grammatical ((c .before .before .before .before .before .before .before .before .before .before .args) .text .now) ((c .before .before .before .before .before .before .before .before .before .before .args) .sheet .now) ((c .before .before .refuse) .result) ((c .before .before .refuse) .last .0) ((c .before .before .before .before .before .before .before .before .before .before .pre)) ((c .before .before .before .before .before .before .before .first-walk) .result) ((c .before .before .before .before .before .before .before .first-walk) .ensures) ((c .before .before .refuse) .ensures .1) ((c .before .before .before .before .before .s) .given .0 .0) ((c .before .before .before .before .before .s) .given .0 .1 .0) ((c .before .before .before .before .before .s) .given .1) (record { number = (c .before .before .before .before .before .before .before .before .before .before .args) .number; place = (c .before .before .before .before .before .before .before .before .before .before .args) .place }) ((c .before .before .refuse) .ensures .0) p
+
+enum-known-s-2 : tie.Need-enum-known-s-2
+enum-known-s-2 c = search needs
+
+refuse-requires-2 : tie.Need-refuse-requires-2
+refuse-requires-2 c κs = search needs
+
+same-length-2 : tie.Need-same-length-2
+same-length-2 c = search needs
+
+returns-2 : tie.Need-returns-2
+returns-2 c = λ p. call-lexical ((c .before .before .before .before .before .before .before .before .before .before .args) .text .now) ((c .before .before .before .before .before .before .before .before .before .before .args) .sheet .now) ((c .before .before .refuse2) .result) ((c .before .before .refuse2) .last .0) ((c .before .before .before .before .before .before .before .before .before .before .pre)) ((c .before .before .before .before .before .before .before .first-walk) .result) ((c .before .before .before .before .before .before .before .first-walk) .ensures) ((c .before .before .refuse2) .ensures .1) ((c .before .before .before .before .before .s2) .given .0 .0) ((c .before .before .before .before .before .s2) .given .1) ((c .before .before .refuse2) .ensures .0)
+
+pub refuse-first-spec : {M : Type 1} → statement M
+refuse-first-spec =
+    tie.close
+    (tie.spec
+    first-walk-requires
+    enum-known-s
+    refuse-requires
+    same-length
+    returns
+    enum-known-s-2
+    refuse-requires-2
+    same-length-2
+    returns-2)

@@ -1,0 +1,30 @@
+use borrow.Author.Needs.{needs}
+use native.Mathlib.Omega.{arith}
+use Rattle.reader.specs.Outcome.{CheckCall}
+use Rattle.satchelram.proofs.Small.{number-small, name-exports}
+use Rattle.satchelram.proofs.satchelram_check.Statement.{statement}
+use Rattle.satchelram.proofs.satchelram_check.Tie as tie
+
+check-requires : tie.Need-check-requires
+check-requires c κs = search needs
+
+number-of-requires : tie.Need-number-of-requires
+number-of-requires c κs = search needs
+
+pack-requires : tie.Need-pack-requires
+pack-requires c κs =
+    let check = c .before .before .before .check in
+    (rw ((c .number-of) .ensures) (number-small (check .result)), omega arith)
+
+same-length : tie.Need-same-length
+same-length c = search needs
+
+returns : tie.Need-returns
+returns c =
+    let check = c .before .before .before .before .check in
+    let args = c .before .before .before .before .before .before .before .before .before .before .args in
+    name-exports (CheckCall (args .sheet .now) (args .name .now) (args .mapping .now) (args .work .now)) (check .result) _ _ ((c .before .number-of) .result) ((c .pack) .result) ((c .before .number-of) .ensures) ((c .pack) .ensures) (check .ensures)
+
+pub satchelram-check-spec : {M : Type 1} → statement M
+satchelram-check-spec =
+    tie.close (tie.spec check-requires number-of-requires pack-requires same-length returns)

@@ -1,0 +1,1204 @@
+use Prim.Native.Nat.{_-_, _≤_, _*_, _+_}
+use borrow.Author.Needs.{needs}
+use borrow.Author.Tests.{not-true, not-false}
+use lib.ListN.{length}
+use mathlib.Core.Path.{refl, sym, _∙_, _≡_}
+use native.Mathlib.Omega.{arith}
+use Rattle.lexer.proofs.Front.{byte-inside}
+use Rattle.lexer.specs.Bytes.{bar, leftParenthesis}
+use Rattle.text.proofs.Faults.{fails-deep, missing-read}
+use Rattle.text.proofs.Parts.{alt-starts, seq-starts, AltSoFar, SeqSoFar}
+use Rattle.text.proofs.Readers.{alt-up, seq-onward, alt-over, alt-again, alt-begun, seq-up, unit-onward, seq-over, seq-again, seq-begun, void-begun, unit-void, unit-up, inner-onward, group-begun, unit-group, unit-unclosed}
+use Rattle.text.specs.Reads.{out, Begun}
+use Prim.Native.Nat.{ℕ, _<_}
+use borrow.Fn.Kinds.{In}
+use borrow.Fn.PlainCycle.{Measures, is, falls, and}
+use Rattle.text.proofs.alternation.Reads as alternation
+use Rattle.text.proofs.alternation.Kinds as alternation-kinds
+use Rattle.text.proofs.+alternation+sequence+unit.Lts-alternation as alternation-lts
+use Rattle.text.proofs.sequence.Reads as sequence
+use Rattle.text.proofs.sequence.Kinds as sequence-kinds
+use Rattle.text.proofs.+alternation+sequence+unit.Lts-sequence as sequence-lts
+use Rattle.text.proofs.unit.Reads as unit
+use Rattle.text.proofs.unit.Kinds as unit-kinds
+use Rattle.text.proofs.+alternation+sequence+unit.Lts-unit as unit-lts
+use Rattle.emission.proofs.emit.Reads as emit-reads
+use Rattle.emission.proofs.emit_if.Reads as emit-if-reads
+use Rattle.lexer.proofs.is.Reads as is-reads
+use Rattle.lexer.proofs.unit_at.Reads as unit-at-reads
+use Rattle.text.proofs.literal.Reads as literal-reads
+use Rattle.text.proofs.missing.Reads as missing-reads
+use Rattle.text.proofs.refused.Reads as refused-reads
+use Rattle.text.proofs.stars.Reads as stars-reads
+use Rattle.text.proofs.+alternation+sequence+unit.{statement}
+use Rattle.text.proofs.+alternation+sequence+unit.Tie.{close}
+
+abbrev μ-alternation : Measures 3 alternation-kinds.ps ℕ
+μ-alternation κs a =
+    3 * (length (a .0 .now) - a .1 .1 .1 .0 + a .1 .1 .1 .1 .1 .1 .0) + 2
+
+abbrev μ-sequence : Measures 3 sequence-kinds.ps ℕ
+μ-sequence κs a =
+    3 * (length (a .0 .now) - a .1 .1 .1 .0 + a .1 .1 .1 .1 .1 .1 .0) + 1
+
+abbrev μ-unit : Measures 3 unit-kinds.ps ℕ
+μ-unit κs a =
+    3 * (length (a .0 .now) - a .1 .1 .1 .0 + a .1 .1 .1 .1 .1 .1 .0)
+
+abbrev alternation-at : ℕ → In 3 alternation-kinds.ps
+alternation-at t =
+    and 3 alternation-kinds.ps (is 3 alternation-kinds.ps μ-alternation t) alternation.Pre
+
+abbrev alternation-below : ℕ → In 3 alternation-kinds.ps
+alternation-below t =
+    and 3 alternation-kinds.ps (falls 3 alternation-kinds.ps _<_ μ-alternation t) alternation.Pre
+
+abbrev sequence-at : ℕ → In 3 sequence-kinds.ps
+sequence-at t = and 3 sequence-kinds.ps (is 3 sequence-kinds.ps μ-sequence t) sequence.Pre
+
+abbrev sequence-below : ℕ → In 3 sequence-kinds.ps
+sequence-below t =
+    and 3 sequence-kinds.ps (falls 3 sequence-kinds.ps _<_ μ-sequence t) sequence.Pre
+
+abbrev unit-at : ℕ → In 3 unit-kinds.ps
+unit-at t = and 3 unit-kinds.ps (is 3 unit-kinds.ps μ-unit t) unit.Pre
+
+abbrev unit-below : ℕ → In 3 unit-kinds.ps
+unit-below t = and 3 unit-kinds.ps (falls 3 unit-kinds.ps _<_ μ-unit t) unit.Pre
+
+abbrev alternation-Inv-loop : alternation-lts.InvT-loop
+alternation-Inv-loop text nodes₀ lits₀ at n l allowed next₀ m₀ k₀ again₀ nodes lits next m k again =
+    AltSoFar again text allowed at (out n nodes₀ l lits₀) next (out m nodes k lits) × (at ≤ next) × Begun (length text) next m k × (length nodes ≡ length nodes₀) × (length lits ≡ length lits₀)
+
+abbrev alternation-μ-loop : alternation-lts.MeasureT-loop
+alternation-μ-loop text nodes₀ lits₀ at n l allowed next₀ m₀ k₀ again₀ nodes lits next m k again =
+    length text - next
+
+alternation-loop-holds : (t : ℕ) → alternation-lts.Need-loop-holds (
+  sequence-below t,
+  sequence.Post,
+  emit-if-reads.Asked,
+  emit-if-reads.Learnt,
+  is-reads.Asked,
+  is-reads.Learnt,
+) (alternation-at t) alternation.Post alternation-Inv-loop alternation-μ-loop
+alternation-loop-holds t c = (alt-starts ((c .before .before .before .args) .text .now) ((c .before .before .before .args) .allowed) ((c .before .before .before .args) .at) (out ((c .before .before .before .args) .n) ((c .before .before .before .args) .nodes .now) ((c .before .before .before .args) .l) ((c .before .before .before .args) .lits .now)), omega arith, (c .before .before .before .pre) .1 .0, refl, refl)
+
+alternation-sequence-requires : (t : ℕ) → alternation-lts.Need-sequence-requires (
+  sequence-below t,
+  sequence.Post,
+  emit-if-reads.Asked,
+  emit-if-reads.Learnt,
+  is-reads.Asked,
+  is-reads.Learnt,
+) (alternation-at t) alternation.Post alternation-Inv-loop alternation-μ-loop
+alternation-sequence-requires t c κs = let v = (c .before .before .loop) .inv in (omega (arith, (c .before .before .before .before .before .before .pre) .0, v .1, v .2 .inside), (v .2, (c .before .before .before .before .before .before .pre) .1 .1))
+
+alternation-enum-known-r : (t : ℕ) → alternation-lts.Need-enum-known-r (
+  sequence-below t,
+  sequence.Post,
+  emit-if-reads.Asked,
+  emit-if-reads.Learnt,
+  is-reads.Asked,
+  is-reads.Learnt,
+) (alternation-at t) alternation.Post alternation-Inv-loop alternation-μ-loop
+alternation-enum-known-r t c = search needs
+
+alternation-enum-told : (t : ℕ) → alternation-lts.Need-enum-told (
+  sequence-below t,
+  sequence.Post,
+  emit-if-reads.Asked,
+  emit-if-reads.Learnt,
+  is-reads.Asked,
+  is-reads.Learnt,
+) (alternation-at t) alternation.Post alternation-Inv-loop alternation-μ-loop
+alternation-enum-told t c = search needs
+
+alternation-same-length : (t : ℕ) → alternation-lts.Need-same-length (
+  sequence-below t,
+  sequence.Post,
+  emit-if-reads.Asked,
+  emit-if-reads.Learnt,
+  is-reads.Asked,
+  is-reads.Learnt,
+) (alternation-at t) alternation.Post alternation-Inv-loop alternation-μ-loop
+alternation-same-length t c = search needs
+
+alternation-same-length-2 : (t : ℕ) → alternation-lts.Need-same-length-2 (
+  sequence-below t,
+  sequence.Post,
+  emit-if-reads.Asked,
+  emit-if-reads.Learnt,
+  is-reads.Asked,
+  is-reads.Learnt,
+) (alternation-at t) alternation.Post alternation-Inv-loop alternation-μ-loop
+alternation-same-length-2 t c = search needs
+
+alternation-returns : (t : ℕ) → alternation-lts.Need-returns (
+  sequence-below t,
+  sequence.Post,
+  emit-if-reads.Asked,
+  emit-if-reads.Learnt,
+  is-reads.Asked,
+  is-reads.Learnt,
+) (alternation-at t) alternation.Post alternation-Inv-loop alternation-μ-loop
+alternation-returns t c = alt-up ((c .before .before .before .before .before .before .before .before .before .before .before .before .before .args) .text .now) ((c .before .before .before .before .before .before .before .before .before .before .before .before .before .args) .allowed) ((c .before .before .before .before .before .before .before .before .before .before .before .before .before .args) .at) (out ((c .before .before .before .before .before .before .before .before .before .before .before .before .before .args) .n) ((c .before .before .before .before .before .before .before .before .before .before .before .before .before .args) .nodes .now) ((c .before .before .before .before .before .before .before .before .before .before .before .before .before .args) .l) ((c .before .before .before .before .before .before .before .before .before .before .before .before .before .args) .lits .now)) ((c .before .before .before .before .before .before .before .before .before .loop) .again) ((c .before .before .before .before .before .before .before .before .before .loop) .next) ((c .before .before .before .before .before .before .before .before .before .loop) .m) ((c .before .before .before .before .before .before .before .before .before .loop) .k) ((c .before .before .before .before .before .before .before .before .before .loop) .nodes) ((c .before .before .before .before .before .before .sequence) .last .1 .0) ((c .before .before .before .before .before .before .before .before .before .loop) .lits) ((c .before .before .before .before .before .before .sequence) .last .1 .1 .0) ((c .before .before .before .before .before .before .sequence) .result) ((c .before .before .before .before .before .before .before .before .before .loop) .inv .0) ((c .before .before .before .before .before .before .sequence) .ensures) ((c .enum-told) .given .0 .0) ((c .enum-told) .given .1)
+
+alternation-emit-if-requires : (t : ℕ) → alternation-lts.Need-emit-if-requires (
+  sequence-below t,
+  sequence.Post,
+  emit-if-reads.Asked,
+  emit-if-reads.Learnt,
+  is-reads.Asked,
+  is-reads.Learnt,
+) (alternation-at t) alternation.Post alternation-Inv-loop alternation-μ-loop
+alternation-emit-if-requires t c κs = let v = (seq-onward ((c .before .before .before .before .before .before .before .before .before .before .before .before .before .before .before .args) .text .now) ((c .before .before .before .before .before .before .before .before .before .before .before .before .before .before .before .args) .allowed) ((c .before .before .before .before .before .before .before .before .before .before .before .before .before .before .before .args) .at) (out ((c .before .before .before .before .before .before .before .before .before .before .before .before .before .before .before .args) .n) ((c .before .before .before .before .before .before .before .before .before .before .before .before .before .before .before .args) .nodes .now) ((c .before .before .before .before .before .before .before .before .before .before .before .before .before .before .before .args) .l) ((c .before .before .before .before .before .before .before .before .before .before .before .before .before .before .before .args) .lits .now)) ((c .before .before .before .before .before .before .before .before .before .before .before .loop) .again) ((c .before .before .before .before .before .before .before .before .before .before .before .loop) .next) ((c .before .before .before .before .before .before .before .before .before .before .before .loop) .m) ((c .before .before .before .before .before .before .before .before .before .before .before .loop) .k) ((c .before .before .before .before .before .before .before .before .before .before .before .loop) .nodes) ((c .before .before .before .before .before .before .before .before .sequence) .last .1 .0) ((c .before .before .before .before .before .before .before .before .before .before .before .loop) .lits) ((c .before .before .before .before .before .before .before .before .sequence) .last .1 .1 .0) ((c .before .before .before .before .before .before .before .before .sequence) .result) ((c .before .before .before .before .before .before .before .before .before .before .before .loop) .inv .0) ((c .before .before .before .before .before .before .before .before .sequence) .ensures) ((c .before .before .r) .given .0 .0) ((c .before .before .r) .given .0 .1 .0) ((c .before .before .r) .given .0 .1 .1 .0) ((c .before .before .r) .given .1)) in omega (arith, v .nodes, v .inside, (c .before .before .before .before .before .before .before .before .before .before .before .before .before .before .before .pre) .1 .0 .short)
+
+alternation-is-requires : (t : ℕ) → alternation-lts.Need-is-requires (
+  sequence-below t,
+  sequence.Post,
+  emit-if-reads.Asked,
+  emit-if-reads.Learnt,
+  is-reads.Asked,
+  is-reads.Learnt,
+) (alternation-at t) alternation.Post alternation-Inv-loop alternation-μ-loop
+alternation-is-requires t c κs = search needs
+
+alternation-same-length-3 : (t : ℕ) → alternation-lts.Need-same-length-3 (
+  sequence-below t,
+  sequence.Post,
+  emit-if-reads.Asked,
+  emit-if-reads.Learnt,
+  is-reads.Asked,
+  is-reads.Learnt,
+) (alternation-at t) alternation.Post alternation-Inv-loop alternation-μ-loop
+alternation-same-length-3 t c = search needs
+
+alternation-same-length-4 : (t : ℕ) → alternation-lts.Need-same-length-4 (
+  sequence-below t,
+  sequence.Post,
+  emit-if-reads.Asked,
+  emit-if-reads.Learnt,
+  is-reads.Asked,
+  is-reads.Learnt,
+) (alternation-at t) alternation.Post alternation-Inv-loop alternation-μ-loop
+alternation-same-length-4 t c = search needs
+
+alternation-returns-2 : (t : ℕ) → alternation-lts.Need-returns-2 (
+  sequence-below t,
+  sequence.Post,
+  emit-if-reads.Asked,
+  emit-if-reads.Learnt,
+  is-reads.Asked,
+  is-reads.Learnt,
+) (alternation-at t) alternation.Post alternation-Inv-loop alternation-μ-loop
+alternation-returns-2 t c = alt-over ((c .before .before .before .before .before .before .before .before .before .before .before .before .before .before .before .before .before .before .before .before .args) .text .now) ((c .before .before .before .before .before .before .before .before .before .before .before .before .before .before .before .before .before .before .before .before .args) .allowed) ((c .before .before .before .before .before .before .before .before .before .before .before .before .before .before .before .before .before .before .before .before .args) .at) (out ((c .before .before .before .before .before .before .before .before .before .before .before .before .before .before .before .before .before .before .before .before .args) .n) ((c .before .before .before .before .before .before .before .before .before .before .before .before .before .before .before .before .before .before .before .before .args) .nodes .now) ((c .before .before .before .before .before .before .before .before .before .before .before .before .before .before .before .before .before .before .before .before .args) .l) ((c .before .before .before .before .before .before .before .before .before .before .before .before .before .before .before .before .before .before .before .before .args) .lits .now)) ((c .before .before .before .before .before .before .before .before .before .before .before .before .before .before .before .before .loop) .again) ((c .before .before .before .before .before .before .before .before .before .before .before .before .before .before .before .before .loop) .next) ((c .before .before .before .before .before .before .before .before .before .before .before .before .before .before .before .before .loop) .m) ((c .before .before .before .before .before .before .before .before .before .before .before .before .before .before .before .before .loop) .k) ((c .before .before .before .before .before .before .before .before .before .before .before .before .before .before .before .before .loop) .nodes) ((c .before .before .before .before .before .before .before .before .before .before .before .before .before .sequence) .last .1 .0) ((c .before .before .before .before .before .before .before .before .before .before .before .before .before .before .before .before .loop) .lits) ((c .before .before .before .before .before .before .before .before .before .before .before .before .before .sequence) .last .1 .1 .0) ((c .before .before .before .before .before .before .before .before .before .before .before .before .before .sequence) .result) ((c .before .before .before .before .before .before .before .before .before .before .before .before .before .before .before .before .loop) .inv .0) ((c .before .before .before .before .before .before .before .before .before .before .before .before .before .sequence) .ensures) ((c .before .before .before .before .before .before .before .r) .given .0 .0) ((c .before .before .before .before .before .before .before .r) .given .0 .1 .0) ((c .before .before .before .before .before .before .before .r) .given .0 .1 .1 .0) ((c .before .before .before .before .before .before .before .r) .given .1) ((c .before .before .before .before .emit-if) .result) ((c .before .before .before .before .emit-if) .last .0) ((c .before .before .before .before .emit-if) .ensures) ((c .before .before .before .before .before .before .before .before .before .before .before .before .before .before .before .before .loop) .inv .1) (sym ((c .before .is) .ensures) ∙ not-true ((c .before .is) .result) ((c .if1) .taken))
+
+alternation-add-next : (t : ℕ) → alternation-lts.Need-add-next (
+  sequence-below t,
+  sequence.Post,
+  emit-if-reads.Asked,
+  emit-if-reads.Learnt,
+  is-reads.Asked,
+  is-reads.Learnt,
+) (alternation-at t) alternation.Post alternation-Inv-loop alternation-μ-loop
+alternation-add-next t c = let v = (seq-onward ((c .before .before .before .before .before .before .before .before .before .before .before .before .before .before .before .before .before .before .before .before .args) .text .now) ((c .before .before .before .before .before .before .before .before .before .before .before .before .before .before .before .before .before .before .before .before .args) .allowed) ((c .before .before .before .before .before .before .before .before .before .before .before .before .before .before .before .before .before .before .before .before .args) .at) (out ((c .before .before .before .before .before .before .before .before .before .before .before .before .before .before .before .before .before .before .before .before .args) .n) ((c .before .before .before .before .before .before .before .before .before .before .before .before .before .before .before .before .before .before .before .before .args) .nodes .now) ((c .before .before .before .before .before .before .before .before .before .before .before .before .before .before .before .before .before .before .before .before .args) .l) ((c .before .before .before .before .before .before .before .before .before .before .before .before .before .before .before .before .before .before .before .before .args) .lits .now)) ((c .before .before .before .before .before .before .before .before .before .before .before .before .before .before .before .before .loop) .again) ((c .before .before .before .before .before .before .before .before .before .before .before .before .before .before .before .before .loop) .next) ((c .before .before .before .before .before .before .before .before .before .before .before .before .before .before .before .before .loop) .m) ((c .before .before .before .before .before .before .before .before .before .before .before .before .before .before .before .before .loop) .k) ((c .before .before .before .before .before .before .before .before .before .before .before .before .before .before .before .before .loop) .nodes) ((c .before .before .before .before .before .before .before .before .before .before .before .before .before .sequence) .last .1 .0) ((c .before .before .before .before .before .before .before .before .before .before .before .before .before .before .before .before .loop) .lits) ((c .before .before .before .before .before .before .before .before .before .before .before .before .before .sequence) .last .1 .1 .0) ((c .before .before .before .before .before .before .before .before .before .before .before .before .before .sequence) .result) ((c .before .before .before .before .before .before .before .before .before .before .before .before .before .before .before .before .loop) .inv .0) ((c .before .before .before .before .before .before .before .before .before .before .before .before .before .sequence) .ensures) ((c .before .before .before .before .before .before .before .r) .given .0 .0) ((c .before .before .before .before .before .before .before .r) .given .0 .1 .0) ((c .before .before .before .before .before .before .before .r) .given .0 .1 .1 .0) ((c .before .before .before .before .before .before .before .r) .given .1)) in omega (arith, v .inside, (c .before .before .before .before .before .before .before .before .before .before .before .before .before .before .before .before .before .before .before .before .pre) .1 .0 .short)
+
+alternation-loop-less : (t : ℕ) → alternation-lts.Need-loop-less (
+  sequence-below t,
+  sequence.Post,
+  emit-if-reads.Asked,
+  emit-if-reads.Learnt,
+  is-reads.Asked,
+  is-reads.Learnt,
+) (alternation-at t) alternation.Post alternation-Inv-loop alternation-μ-loop
+alternation-loop-less t c = let v = (seq-onward ((c .before .before .before .before .before .before .before .before .before .before .before .before .before .before .before .before .before .before .before .before .args) .text .now) ((c .before .before .before .before .before .before .before .before .before .before .before .before .before .before .before .before .before .before .before .before .args) .allowed) ((c .before .before .before .before .before .before .before .before .before .before .before .before .before .before .before .before .before .before .before .before .args) .at) (out ((c .before .before .before .before .before .before .before .before .before .before .before .before .before .before .before .before .before .before .before .before .args) .n) ((c .before .before .before .before .before .before .before .before .before .before .before .before .before .before .before .before .before .before .before .before .args) .nodes .now) ((c .before .before .before .before .before .before .before .before .before .before .before .before .before .before .before .before .before .before .before .before .args) .l) ((c .before .before .before .before .before .before .before .before .before .before .before .before .before .before .before .before .before .before .before .before .args) .lits .now)) ((c .before .before .before .before .before .before .before .before .before .before .before .before .before .before .before .before .loop) .again) ((c .before .before .before .before .before .before .before .before .before .before .before .before .before .before .before .before .loop) .next) ((c .before .before .before .before .before .before .before .before .before .before .before .before .before .before .before .before .loop) .m) ((c .before .before .before .before .before .before .before .before .before .before .before .before .before .before .before .before .loop) .k) ((c .before .before .before .before .before .before .before .before .before .before .before .before .before .before .before .before .loop) .nodes) ((c .before .before .before .before .before .before .before .before .before .before .before .before .before .sequence) .last .1 .0) ((c .before .before .before .before .before .before .before .before .before .before .before .before .before .before .before .before .loop) .lits) ((c .before .before .before .before .before .before .before .before .before .before .before .before .before .sequence) .last .1 .1 .0) ((c .before .before .before .before .before .before .before .before .before .before .before .before .before .sequence) .result) ((c .before .before .before .before .before .before .before .before .before .before .before .before .before .before .before .before .loop) .inv .0) ((c .before .before .before .before .before .before .before .before .before .before .before .before .before .sequence) .ensures) ((c .before .before .before .before .before .before .before .r) .given .0 .0) ((c .before .before .before .before .before .before .before .r) .given .0 .1 .0) ((c .before .before .before .before .before .before .before .r) .given .0 .1 .1 .0) ((c .before .before .before .before .before .before .before .r) .given .1)) in omega (arith, v .further, v .inside, byte-inside ((c .before .before .before .before .before .before .before .before .before .before .before .before .before .before .before .before .before .before .before .before .args) .text .now) ((c .before .before .before .before .before .before .before .r) .given .0 .0) bar (sym ((c .before .is) .ensures) ∙ not-false ((c .before .is) .result) ((c .if1) .left)))
+
+alternation-loop-again : (t : ℕ) → alternation-lts.Need-loop-again (
+  sequence-below t,
+  sequence.Post,
+  emit-if-reads.Asked,
+  emit-if-reads.Learnt,
+  is-reads.Asked,
+  is-reads.Learnt,
+) (alternation-at t) alternation.Post alternation-Inv-loop alternation-μ-loop
+alternation-loop-again t c = let v = (seq-onward ((c .before .before .before .before .before .before .before .before .before .before .before .before .before .before .before .before .before .before .before .before .args) .text .now) ((c .before .before .before .before .before .before .before .before .before .before .before .before .before .before .before .before .before .before .before .before .args) .allowed) ((c .before .before .before .before .before .before .before .before .before .before .before .before .before .before .before .before .before .before .before .before .args) .at) (out ((c .before .before .before .before .before .before .before .before .before .before .before .before .before .before .before .before .before .before .before .before .args) .n) ((c .before .before .before .before .before .before .before .before .before .before .before .before .before .before .before .before .before .before .before .before .args) .nodes .now) ((c .before .before .before .before .before .before .before .before .before .before .before .before .before .before .before .before .before .before .before .before .args) .l) ((c .before .before .before .before .before .before .before .before .before .before .before .before .before .before .before .before .before .before .before .before .args) .lits .now)) ((c .before .before .before .before .before .before .before .before .before .before .before .before .before .before .before .before .loop) .again) ((c .before .before .before .before .before .before .before .before .before .before .before .before .before .before .before .before .loop) .next) ((c .before .before .before .before .before .before .before .before .before .before .before .before .before .before .before .before .loop) .m) ((c .before .before .before .before .before .before .before .before .before .before .before .before .before .before .before .before .loop) .k) ((c .before .before .before .before .before .before .before .before .before .before .before .before .before .before .before .before .loop) .nodes) ((c .before .before .before .before .before .before .before .before .before .before .before .before .before .sequence) .last .1 .0) ((c .before .before .before .before .before .before .before .before .before .before .before .before .before .before .before .before .loop) .lits) ((c .before .before .before .before .before .before .before .before .before .before .before .before .before .sequence) .last .1 .1 .0) ((c .before .before .before .before .before .before .before .before .before .before .before .before .before .sequence) .result) ((c .before .before .before .before .before .before .before .before .before .before .before .before .before .before .before .before .loop) .inv .0) ((c .before .before .before .before .before .before .before .before .before .before .before .before .before .sequence) .ensures) ((c .before .before .before .before .before .before .before .r) .given .0 .0) ((c .before .before .before .before .before .before .before .r) .given .0 .1 .0) ((c .before .before .before .before .before .before .before .r) .given .0 .1 .1 .0) ((c .before .before .before .before .before .before .before .r) .given .1)) in (alt-again ((c .before .before .before .before .before .before .before .before .before .before .before .before .before .before .before .before .before .before .before .before .args) .text .now) ((c .before .before .before .before .before .before .before .before .before .before .before .before .before .before .before .before .before .before .before .before .args) .allowed) ((c .before .before .before .before .before .before .before .before .before .before .before .before .before .before .before .before .before .before .before .before .args) .at) (out ((c .before .before .before .before .before .before .before .before .before .before .before .before .before .before .before .before .before .before .before .before .args) .n) ((c .before .before .before .before .before .before .before .before .before .before .before .before .before .before .before .before .before .before .before .before .args) .nodes .now) ((c .before .before .before .before .before .before .before .before .before .before .before .before .before .before .before .before .before .before .before .before .args) .l) ((c .before .before .before .before .before .before .before .before .before .before .before .before .before .before .before .before .before .before .before .before .args) .lits .now)) ((c .before .before .before .before .before .before .before .before .before .before .before .before .before .before .before .before .loop) .again) ((c .before .before .before .before .before .before .before .before .before .before .before .before .before .before .before .before .loop) .next) ((c .before .before .before .before .before .before .before .before .before .before .before .before .before .before .before .before .loop) .m) ((c .before .before .before .before .before .before .before .before .before .before .before .before .before .before .before .before .loop) .k) ((c .before .before .before .before .before .before .before .before .before .before .before .before .before .before .before .before .loop) .nodes) ((c .before .before .before .before .before .before .before .before .before .before .before .before .before .sequence) .last .1 .0) ((c .before .before .before .before .before .before .before .before .before .before .before .before .before .before .before .before .loop) .lits) ((c .before .before .before .before .before .before .before .before .before .before .before .before .before .sequence) .last .1 .1 .0) ((c .before .before .before .before .before .before .before .before .before .before .before .before .before .sequence) .result) ((c .before .before .before .before .before .before .before .before .before .before .before .before .before .before .before .before .loop) .inv .0) ((c .before .before .before .before .before .before .before .before .before .before .before .before .before .sequence) .ensures) ((c .before .before .before .before .before .before .before .r) .given .0 .0) ((c .before .before .before .before .before .before .before .r) .given .0 .1 .0) ((c .before .before .before .before .before .before .before .r) .given .0 .1 .1 .0) ((c .before .before .before .before .before .before .before .r) .given .1) ((c .before .before .before .before .emit-if) .result) ((c .before .before .before .before .emit-if) .last .0) ((c .before .before .before .before .emit-if) .ensures) (sym ((c .before .is) .ensures) ∙ not-false ((c .before .is) .result) ((c .if1) .left)), omega (arith, v .further, (c .before .before .before .before .before .before .before .before .before .before .before .before .before .before .before .before .loop) .inv .1), alt-begun ((c .before .before .before .before .before .before .before .before .before .before .before .before .before .before .before .before .before .before .before .before .args) .text .now) ((c .before .before .before .before .before .before .before .before .before .before .before .before .before .before .before .before .before .before .before .before .args) .allowed) ((c .before .before .before .before .before .before .before .before .before .before .before .before .before .before .before .before .before .before .before .before .args) .at) (out ((c .before .before .before .before .before .before .before .before .before .before .before .before .before .before .before .before .before .before .before .before .args) .n) ((c .before .before .before .before .before .before .before .before .before .before .before .before .before .before .before .before .before .before .before .before .args) .nodes .now) ((c .before .before .before .before .before .before .before .before .before .before .before .before .before .before .before .before .before .before .before .before .args) .l) ((c .before .before .before .before .before .before .before .before .before .before .before .before .before .before .before .before .before .before .before .before .args) .lits .now)) ((c .before .before .before .before .before .before .before .before .before .before .before .before .before .before .before .before .loop) .again) ((c .before .before .before .before .before .before .before .before .before .before .before .before .before .before .before .before .loop) .next) ((c .before .before .before .before .before .before .before .before .before .before .before .before .before .before .before .before .loop) .m) ((c .before .before .before .before .before .before .before .before .before .before .before .before .before .before .before .before .loop) .k) ((c .before .before .before .before .before .before .before .before .before .before .before .before .before .before .before .before .loop) .nodes) ((c .before .before .before .before .before .before .before .before .before .before .before .before .before .sequence) .last .1 .0) ((c .before .before .before .before .before .before .before .before .before .before .before .before .before .before .before .before .loop) .lits) ((c .before .before .before .before .before .before .before .before .before .before .before .before .before .sequence) .last .1 .1 .0) ((c .before .before .before .before .before .before .before .before .before .before .before .before .before .sequence) .result) ((c .before .before .before .before .before .before .before .before .before .before .before .before .before .before .before .before .loop) .inv .0) ((c .before .before .before .before .before .before .before .before .before .before .before .before .before .sequence) .ensures) ((c .before .before .before .before .before .before .before .r) .given .0 .0) ((c .before .before .before .before .before .before .before .r) .given .0 .1 .0) ((c .before .before .before .before .before .before .before .r) .given .0 .1 .1 .0) ((c .before .before .before .before .before .before .before .r) .given .1) ((c .before .before .before .before .emit-if) .result) ((c .before .before .before .before .emit-if) .last .0) ((c .before .before .before .before .emit-if) .ensures) (sym ((c .before .is) .ensures) ∙ not-false ((c .before .is) .result) ((c .if1) .left)) ((c .before .before .before .before .before .before .before .before .before .before .before .before .before .before .before .before .before .before .before .before .pre) .1 .0 .short), omega (arith, (c .before .before .before .before .emit-if) .kept, (c .before .before .before .before .before .before .before .before .before .before .before .before .before .sequence) .kept, (c .before .before .before .before .before .before .before .before .before .before .before .before .before .before .before .before .loop) .inv .3), omega (arith, (c .before .before .before .before .before .before .before .before .before .before .before .before .before .sequence) .kept, (c .before .before .before .before .before .before .before .before .before .before .before .before .before .before .before .before .loop) .inv .4))
+
+abbrev sequence-Inv-loop : sequence-lts.InvT-loop
+sequence-Inv-loop text nodes₀ lits₀ at n l allowed next₀ m₀ k₀ again₀ nodes lits next m k again =
+    SeqSoFar again text allowed at (out n nodes₀ l lits₀) next (out m nodes k lits) × (at ≤ next) × Begun (length text) next m k × (length nodes ≡ length nodes₀) × (length lits ≡ length lits₀)
+
+abbrev sequence-μ-loop : sequence-lts.MeasureT-loop
+sequence-μ-loop text nodes₀ lits₀ at n l allowed next₀ m₀ k₀ again₀ nodes lits next m k again =
+    length text - next
+
+sequence-loop-holds : (t : ℕ) → sequence-lts.Need-loop-holds (
+  unit-below t,
+  unit.Post,
+  emit-if-reads.Asked,
+  emit-if-reads.Learnt,
+  unit-at-reads.Asked,
+  unit-at-reads.Learnt,
+) (sequence-at t) sequence.Post sequence-Inv-loop sequence-μ-loop
+sequence-loop-holds t c = (seq-starts ((c .before .before .before .args) .text .now) ((c .before .before .before .args) .allowed) ((c .before .before .before .args) .at) (out ((c .before .before .before .args) .n) ((c .before .before .before .args) .nodes .now) ((c .before .before .before .args) .l) ((c .before .before .before .args) .lits .now)), omega arith, (c .before .before .before .pre) .1 .0, refl, refl)
+
+sequence-unit-requires : (t : ℕ) → sequence-lts.Need-unit-requires (
+  unit-below t,
+  unit.Post,
+  emit-if-reads.Asked,
+  emit-if-reads.Learnt,
+  unit-at-reads.Asked,
+  unit-at-reads.Learnt,
+) (sequence-at t) sequence.Post sequence-Inv-loop sequence-μ-loop
+sequence-unit-requires t c κs = let v = (c .before .before .loop) .inv in (omega (arith, (c .before .before .before .before .before .before .pre) .0, v .1, v .2 .inside), (v .2, (c .before .before .before .before .before .before .pre) .1 .1))
+
+sequence-enum-known-r : (t : ℕ) → sequence-lts.Need-enum-known-r (
+  unit-below t,
+  unit.Post,
+  emit-if-reads.Asked,
+  emit-if-reads.Learnt,
+  unit-at-reads.Asked,
+  unit-at-reads.Learnt,
+) (sequence-at t) sequence.Post sequence-Inv-loop sequence-μ-loop
+sequence-enum-known-r t c = search needs
+
+sequence-enum-told : (t : ℕ) → sequence-lts.Need-enum-told (
+  unit-below t,
+  unit.Post,
+  emit-if-reads.Asked,
+  emit-if-reads.Learnt,
+  unit-at-reads.Asked,
+  unit-at-reads.Learnt,
+) (sequence-at t) sequence.Post sequence-Inv-loop sequence-μ-loop
+sequence-enum-told t c = search needs
+
+sequence-same-length : (t : ℕ) → sequence-lts.Need-same-length (
+  unit-below t,
+  unit.Post,
+  emit-if-reads.Asked,
+  emit-if-reads.Learnt,
+  unit-at-reads.Asked,
+  unit-at-reads.Learnt,
+) (sequence-at t) sequence.Post sequence-Inv-loop sequence-μ-loop
+sequence-same-length t c = search needs
+
+sequence-same-length-2 : (t : ℕ) → sequence-lts.Need-same-length-2 (
+  unit-below t,
+  unit.Post,
+  emit-if-reads.Asked,
+  emit-if-reads.Learnt,
+  unit-at-reads.Asked,
+  unit-at-reads.Learnt,
+) (sequence-at t) sequence.Post sequence-Inv-loop sequence-μ-loop
+sequence-same-length-2 t c = search needs
+
+sequence-returns : (t : ℕ) → sequence-lts.Need-returns (
+  unit-below t,
+  unit.Post,
+  emit-if-reads.Asked,
+  emit-if-reads.Learnt,
+  unit-at-reads.Asked,
+  unit-at-reads.Learnt,
+) (sequence-at t) sequence.Post sequence-Inv-loop sequence-μ-loop
+sequence-returns t c = seq-up ((c .before .before .before .before .before .before .before .before .before .before .before .before .before .args) .text .now) ((c .before .before .before .before .before .before .before .before .before .before .before .before .before .args) .allowed) ((c .before .before .before .before .before .before .before .before .before .before .before .before .before .args) .at) (out ((c .before .before .before .before .before .before .before .before .before .before .before .before .before .args) .n) ((c .before .before .before .before .before .before .before .before .before .before .before .before .before .args) .nodes .now) ((c .before .before .before .before .before .before .before .before .before .before .before .before .before .args) .l) ((c .before .before .before .before .before .before .before .before .before .before .before .before .before .args) .lits .now)) ((c .before .before .before .before .before .before .before .before .before .loop) .again) ((c .before .before .before .before .before .before .before .before .before .loop) .next) ((c .before .before .before .before .before .before .before .before .before .loop) .m) ((c .before .before .before .before .before .before .before .before .before .loop) .k) ((c .before .before .before .before .before .before .before .before .before .loop) .nodes) ((c .before .before .before .before .before .before .unit) .last .1 .0) ((c .before .before .before .before .before .before .before .before .before .loop) .lits) ((c .before .before .before .before .before .before .unit) .last .1 .1 .0) ((c .before .before .before .before .before .before .unit) .result) ((c .before .before .before .before .before .before .before .before .before .loop) .inv .0) ((c .before .before .before .before .before .before .unit) .ensures) ((c .enum-told) .given .0 .0) ((c .enum-told) .given .1)
+
+sequence-emit-if-requires : (t : ℕ) → sequence-lts.Need-emit-if-requires (
+  unit-below t,
+  unit.Post,
+  emit-if-reads.Asked,
+  emit-if-reads.Learnt,
+  unit-at-reads.Asked,
+  unit-at-reads.Learnt,
+) (sequence-at t) sequence.Post sequence-Inv-loop sequence-μ-loop
+sequence-emit-if-requires t c κs = let v = (unit-onward ((c .before .before .before .before .before .before .before .before .before .before .before .before .before .before .before .args) .text .now) ((c .before .before .before .before .before .before .before .before .before .before .before .before .before .before .before .args) .allowed) ((c .before .before .before .before .before .before .before .before .before .before .before .before .before .before .before .args) .at) (out ((c .before .before .before .before .before .before .before .before .before .before .before .before .before .before .before .args) .n) ((c .before .before .before .before .before .before .before .before .before .before .before .before .before .before .before .args) .nodes .now) ((c .before .before .before .before .before .before .before .before .before .before .before .before .before .before .before .args) .l) ((c .before .before .before .before .before .before .before .before .before .before .before .before .before .before .before .args) .lits .now)) ((c .before .before .before .before .before .before .before .before .before .before .before .loop) .again) ((c .before .before .before .before .before .before .before .before .before .before .before .loop) .next) ((c .before .before .before .before .before .before .before .before .before .before .before .loop) .m) ((c .before .before .before .before .before .before .before .before .before .before .before .loop) .k) ((c .before .before .before .before .before .before .before .before .before .before .before .loop) .nodes) ((c .before .before .before .before .before .before .before .before .unit) .last .1 .0) ((c .before .before .before .before .before .before .before .before .before .before .before .loop) .lits) ((c .before .before .before .before .before .before .before .before .unit) .last .1 .1 .0) ((c .before .before .before .before .before .before .before .before .unit) .result) ((c .before .before .before .before .before .before .before .before .before .before .before .loop) .inv .0) ((c .before .before .before .before .before .before .before .before .unit) .ensures) ((c .before .before .r) .given .0 .0) ((c .before .before .r) .given .0 .1 .0) ((c .before .before .r) .given .0 .1 .1 .0) ((c .before .before .r) .given .1)) in omega (arith, v .nodes, v .inside, (c .before .before .before .before .before .before .before .before .before .before .before .before .before .before .before .pre) .1 .0 .short)
+
+sequence-unit-at-requires : (t : ℕ) → sequence-lts.Need-unit-at-requires (
+  unit-below t,
+  unit.Post,
+  emit-if-reads.Asked,
+  emit-if-reads.Learnt,
+  unit-at-reads.Asked,
+  unit-at-reads.Learnt,
+) (sequence-at t) sequence.Post sequence-Inv-loop sequence-μ-loop
+sequence-unit-at-requires t c κs = search needs
+
+sequence-same-length-3 : (t : ℕ) → sequence-lts.Need-same-length-3 (
+  unit-below t,
+  unit.Post,
+  emit-if-reads.Asked,
+  emit-if-reads.Learnt,
+  unit-at-reads.Asked,
+  unit-at-reads.Learnt,
+) (sequence-at t) sequence.Post sequence-Inv-loop sequence-μ-loop
+sequence-same-length-3 t c = search needs
+
+sequence-same-length-4 : (t : ℕ) → sequence-lts.Need-same-length-4 (
+  unit-below t,
+  unit.Post,
+  emit-if-reads.Asked,
+  emit-if-reads.Learnt,
+  unit-at-reads.Asked,
+  unit-at-reads.Learnt,
+) (sequence-at t) sequence.Post sequence-Inv-loop sequence-μ-loop
+sequence-same-length-4 t c = search needs
+
+sequence-returns-2 : (t : ℕ) → sequence-lts.Need-returns-2 (
+  unit-below t,
+  unit.Post,
+  emit-if-reads.Asked,
+  emit-if-reads.Learnt,
+  unit-at-reads.Asked,
+  unit-at-reads.Learnt,
+) (sequence-at t) sequence.Post sequence-Inv-loop sequence-μ-loop
+sequence-returns-2 t c = seq-over ((c .before .before .before .before .before .before .before .before .before .before .before .before .before .before .before .before .before .before .before .before .args) .text .now) ((c .before .before .before .before .before .before .before .before .before .before .before .before .before .before .before .before .before .before .before .before .args) .allowed) ((c .before .before .before .before .before .before .before .before .before .before .before .before .before .before .before .before .before .before .before .before .args) .at) (out ((c .before .before .before .before .before .before .before .before .before .before .before .before .before .before .before .before .before .before .before .before .args) .n) ((c .before .before .before .before .before .before .before .before .before .before .before .before .before .before .before .before .before .before .before .before .args) .nodes .now) ((c .before .before .before .before .before .before .before .before .before .before .before .before .before .before .before .before .before .before .before .before .args) .l) ((c .before .before .before .before .before .before .before .before .before .before .before .before .before .before .before .before .before .before .before .before .args) .lits .now)) ((c .before .before .before .before .before .before .before .before .before .before .before .before .before .before .before .before .loop) .again) ((c .before .before .before .before .before .before .before .before .before .before .before .before .before .before .before .before .loop) .next) ((c .before .before .before .before .before .before .before .before .before .before .before .before .before .before .before .before .loop) .m) ((c .before .before .before .before .before .before .before .before .before .before .before .before .before .before .before .before .loop) .k) ((c .before .before .before .before .before .before .before .before .before .before .before .before .before .before .before .before .loop) .nodes) ((c .before .before .before .before .before .before .before .before .before .before .before .before .before .unit) .last .1 .0) ((c .before .before .before .before .before .before .before .before .before .before .before .before .before .before .before .before .loop) .lits) ((c .before .before .before .before .before .before .before .before .before .before .before .before .before .unit) .last .1 .1 .0) ((c .before .before .before .before .before .before .before .before .before .before .before .before .before .unit) .result) ((c .before .before .before .before .before .before .before .before .before .before .before .before .before .before .before .before .loop) .inv .0) ((c .before .before .before .before .before .before .before .before .before .before .before .before .before .unit) .ensures) ((c .before .before .before .before .before .before .before .r) .given .0 .0) ((c .before .before .before .before .before .before .before .r) .given .0 .1 .0) ((c .before .before .before .before .before .before .before .r) .given .0 .1 .1 .0) ((c .before .before .before .before .before .before .before .r) .given .1) ((c .before .before .before .before .emit-if) .result) ((c .before .before .before .before .emit-if) .last .0) ((c .before .before .before .before .emit-if) .ensures) ((c .before .before .before .before .before .before .before .before .before .before .before .before .before .before .before .before .loop) .inv .1) (sym ((c .before .unit-at) .ensures) ∙ not-true ((c .before .unit-at) .result) ((c .if1) .taken))
+
+sequence-loop-less : (t : ℕ) → sequence-lts.Need-loop-less (
+  unit-below t,
+  unit.Post,
+  emit-if-reads.Asked,
+  emit-if-reads.Learnt,
+  unit-at-reads.Asked,
+  unit-at-reads.Learnt,
+) (sequence-at t) sequence.Post sequence-Inv-loop sequence-μ-loop
+sequence-loop-less t c = let v = (unit-onward ((c .before .before .before .before .before .before .before .before .before .before .before .before .before .before .before .before .before .before .before .before .args) .text .now) ((c .before .before .before .before .before .before .before .before .before .before .before .before .before .before .before .before .before .before .before .before .args) .allowed) ((c .before .before .before .before .before .before .before .before .before .before .before .before .before .before .before .before .before .before .before .before .args) .at) (out ((c .before .before .before .before .before .before .before .before .before .before .before .before .before .before .before .before .before .before .before .before .args) .n) ((c .before .before .before .before .before .before .before .before .before .before .before .before .before .before .before .before .before .before .before .before .args) .nodes .now) ((c .before .before .before .before .before .before .before .before .before .before .before .before .before .before .before .before .before .before .before .before .args) .l) ((c .before .before .before .before .before .before .before .before .before .before .before .before .before .before .before .before .before .before .before .before .args) .lits .now)) ((c .before .before .before .before .before .before .before .before .before .before .before .before .before .before .before .before .loop) .again) ((c .before .before .before .before .before .before .before .before .before .before .before .before .before .before .before .before .loop) .next) ((c .before .before .before .before .before .before .before .before .before .before .before .before .before .before .before .before .loop) .m) ((c .before .before .before .before .before .before .before .before .before .before .before .before .before .before .before .before .loop) .k) ((c .before .before .before .before .before .before .before .before .before .before .before .before .before .before .before .before .loop) .nodes) ((c .before .before .before .before .before .before .before .before .before .before .before .before .before .unit) .last .1 .0) ((c .before .before .before .before .before .before .before .before .before .before .before .before .before .before .before .before .loop) .lits) ((c .before .before .before .before .before .before .before .before .before .before .before .before .before .unit) .last .1 .1 .0) ((c .before .before .before .before .before .before .before .before .before .before .before .before .before .unit) .result) ((c .before .before .before .before .before .before .before .before .before .before .before .before .before .before .before .before .loop) .inv .0) ((c .before .before .before .before .before .before .before .before .before .before .before .before .before .unit) .ensures) ((c .before .before .before .before .before .before .before .r) .given .0 .0) ((c .before .before .before .before .before .before .before .r) .given .0 .1 .0) ((c .before .before .before .before .before .before .before .r) .given .0 .1 .1 .0) ((c .before .before .before .before .before .before .before .r) .given .1)) in omega (arith, v .further, v .inside)
+
+sequence-loop-again : (t : ℕ) → sequence-lts.Need-loop-again (
+  unit-below t,
+  unit.Post,
+  emit-if-reads.Asked,
+  emit-if-reads.Learnt,
+  unit-at-reads.Asked,
+  unit-at-reads.Learnt,
+) (sequence-at t) sequence.Post sequence-Inv-loop sequence-μ-loop
+sequence-loop-again t c = let v = (unit-onward ((c .before .before .before .before .before .before .before .before .before .before .before .before .before .before .before .before .before .before .before .before .args) .text .now) ((c .before .before .before .before .before .before .before .before .before .before .before .before .before .before .before .before .before .before .before .before .args) .allowed) ((c .before .before .before .before .before .before .before .before .before .before .before .before .before .before .before .before .before .before .before .before .args) .at) (out ((c .before .before .before .before .before .before .before .before .before .before .before .before .before .before .before .before .before .before .before .before .args) .n) ((c .before .before .before .before .before .before .before .before .before .before .before .before .before .before .before .before .before .before .before .before .args) .nodes .now) ((c .before .before .before .before .before .before .before .before .before .before .before .before .before .before .before .before .before .before .before .before .args) .l) ((c .before .before .before .before .before .before .before .before .before .before .before .before .before .before .before .before .before .before .before .before .args) .lits .now)) ((c .before .before .before .before .before .before .before .before .before .before .before .before .before .before .before .before .loop) .again) ((c .before .before .before .before .before .before .before .before .before .before .before .before .before .before .before .before .loop) .next) ((c .before .before .before .before .before .before .before .before .before .before .before .before .before .before .before .before .loop) .m) ((c .before .before .before .before .before .before .before .before .before .before .before .before .before .before .before .before .loop) .k) ((c .before .before .before .before .before .before .before .before .before .before .before .before .before .before .before .before .loop) .nodes) ((c .before .before .before .before .before .before .before .before .before .before .before .before .before .unit) .last .1 .0) ((c .before .before .before .before .before .before .before .before .before .before .before .before .before .before .before .before .loop) .lits) ((c .before .before .before .before .before .before .before .before .before .before .before .before .before .unit) .last .1 .1 .0) ((c .before .before .before .before .before .before .before .before .before .before .before .before .before .unit) .result) ((c .before .before .before .before .before .before .before .before .before .before .before .before .before .before .before .before .loop) .inv .0) ((c .before .before .before .before .before .before .before .before .before .before .before .before .before .unit) .ensures) ((c .before .before .before .before .before .before .before .r) .given .0 .0) ((c .before .before .before .before .before .before .before .r) .given .0 .1 .0) ((c .before .before .before .before .before .before .before .r) .given .0 .1 .1 .0) ((c .before .before .before .before .before .before .before .r) .given .1)) in (seq-again ((c .before .before .before .before .before .before .before .before .before .before .before .before .before .before .before .before .before .before .before .before .args) .text .now) ((c .before .before .before .before .before .before .before .before .before .before .before .before .before .before .before .before .before .before .before .before .args) .allowed) ((c .before .before .before .before .before .before .before .before .before .before .before .before .before .before .before .before .before .before .before .before .args) .at) (out ((c .before .before .before .before .before .before .before .before .before .before .before .before .before .before .before .before .before .before .before .before .args) .n) ((c .before .before .before .before .before .before .before .before .before .before .before .before .before .before .before .before .before .before .before .before .args) .nodes .now) ((c .before .before .before .before .before .before .before .before .before .before .before .before .before .before .before .before .before .before .before .before .args) .l) ((c .before .before .before .before .before .before .before .before .before .before .before .before .before .before .before .before .before .before .before .before .args) .lits .now)) ((c .before .before .before .before .before .before .before .before .before .before .before .before .before .before .before .before .loop) .again) ((c .before .before .before .before .before .before .before .before .before .before .before .before .before .before .before .before .loop) .next) ((c .before .before .before .before .before .before .before .before .before .before .before .before .before .before .before .before .loop) .m) ((c .before .before .before .before .before .before .before .before .before .before .before .before .before .before .before .before .loop) .k) ((c .before .before .before .before .before .before .before .before .before .before .before .before .before .before .before .before .loop) .nodes) ((c .before .before .before .before .before .before .before .before .before .before .before .before .before .unit) .last .1 .0) ((c .before .before .before .before .before .before .before .before .before .before .before .before .before .before .before .before .loop) .lits) ((c .before .before .before .before .before .before .before .before .before .before .before .before .before .unit) .last .1 .1 .0) ((c .before .before .before .before .before .before .before .before .before .before .before .before .before .unit) .result) ((c .before .before .before .before .before .before .before .before .before .before .before .before .before .before .before .before .loop) .inv .0) ((c .before .before .before .before .before .before .before .before .before .before .before .before .before .unit) .ensures) ((c .before .before .before .before .before .before .before .r) .given .0 .0) ((c .before .before .before .before .before .before .before .r) .given .0 .1 .0) ((c .before .before .before .before .before .before .before .r) .given .0 .1 .1 .0) ((c .before .before .before .before .before .before .before .r) .given .1) ((c .before .before .before .before .emit-if) .result) ((c .before .before .before .before .emit-if) .last .0) ((c .before .before .before .before .emit-if) .ensures) (sym ((c .before .unit-at) .ensures) ∙ not-false ((c .before .unit-at) .result) ((c .if1) .left)), omega (arith, v .further, (c .before .before .before .before .before .before .before .before .before .before .before .before .before .before .before .before .loop) .inv .1), seq-begun ((c .before .before .before .before .before .before .before .before .before .before .before .before .before .before .before .before .before .before .before .before .args) .text .now) ((c .before .before .before .before .before .before .before .before .before .before .before .before .before .before .before .before .before .before .before .before .args) .allowed) ((c .before .before .before .before .before .before .before .before .before .before .before .before .before .before .before .before .before .before .before .before .args) .at) (out ((c .before .before .before .before .before .before .before .before .before .before .before .before .before .before .before .before .before .before .before .before .args) .n) ((c .before .before .before .before .before .before .before .before .before .before .before .before .before .before .before .before .before .before .before .before .args) .nodes .now) ((c .before .before .before .before .before .before .before .before .before .before .before .before .before .before .before .before .before .before .before .before .args) .l) ((c .before .before .before .before .before .before .before .before .before .before .before .before .before .before .before .before .before .before .before .before .args) .lits .now)) ((c .before .before .before .before .before .before .before .before .before .before .before .before .before .before .before .before .loop) .again) ((c .before .before .before .before .before .before .before .before .before .before .before .before .before .before .before .before .loop) .next) ((c .before .before .before .before .before .before .before .before .before .before .before .before .before .before .before .before .loop) .m) ((c .before .before .before .before .before .before .before .before .before .before .before .before .before .before .before .before .loop) .k) ((c .before .before .before .before .before .before .before .before .before .before .before .before .before .before .before .before .loop) .nodes) ((c .before .before .before .before .before .before .before .before .before .before .before .before .before .unit) .last .1 .0) ((c .before .before .before .before .before .before .before .before .before .before .before .before .before .before .before .before .loop) .lits) ((c .before .before .before .before .before .before .before .before .before .before .before .before .before .unit) .last .1 .1 .0) ((c .before .before .before .before .before .before .before .before .before .before .before .before .before .unit) .result) ((c .before .before .before .before .before .before .before .before .before .before .before .before .before .before .before .before .loop) .inv .0) ((c .before .before .before .before .before .before .before .before .before .before .before .before .before .unit) .ensures) ((c .before .before .before .before .before .before .before .r) .given .0 .0) ((c .before .before .before .before .before .before .before .r) .given .0 .1 .0) ((c .before .before .before .before .before .before .before .r) .given .0 .1 .1 .0) ((c .before .before .before .before .before .before .before .r) .given .1) ((c .before .before .before .before .emit-if) .result) ((c .before .before .before .before .emit-if) .last .0) ((c .before .before .before .before .emit-if) .ensures) ((c .before .before .before .before .before .before .before .before .before .before .before .before .before .before .before .before .before .before .before .before .pre) .1 .0 .short), omega (arith, (c .before .before .before .before .emit-if) .kept, (c .before .before .before .before .before .before .before .before .before .before .before .before .before .unit) .kept, (c .before .before .before .before .before .before .before .before .before .before .before .before .before .before .before .before .loop) .inv .3), omega (arith, (c .before .before .before .before .before .before .before .before .before .before .before .before .before .unit) .kept, (c .before .before .before .before .before .before .before .before .before .before .before .before .before .before .before .before .loop) .inv .4))
+
+unit-is-requires : (t : ℕ) → unit-lts.Need-is-requires (
+  is-reads.Asked,
+  is-reads.Learnt,
+  refused-reads.Asked,
+  refused-reads.Learnt,
+  emit-reads.Asked,
+  emit-reads.Learnt,
+  stars-reads.Asked,
+  stars-reads.Learnt,
+  alternation-below t,
+  alternation.Post,
+  unit-at-reads.Asked,
+  unit-at-reads.Learnt,
+  literal-reads.Asked,
+  literal-reads.Learnt,
+  missing-reads.Asked,
+  missing-reads.Learnt,
+) (unit-at t) unit.Post
+unit-is-requires t c κs = search needs
+
+unit-refused-requires : (t : ℕ) → unit-lts.Need-refused-requires (
+  is-reads.Asked,
+  is-reads.Learnt,
+  refused-reads.Asked,
+  refused-reads.Learnt,
+  emit-reads.Asked,
+  emit-reads.Learnt,
+  stars-reads.Asked,
+  stars-reads.Learnt,
+  alternation-below t,
+  alternation.Post,
+  unit-at-reads.Asked,
+  unit-at-reads.Learnt,
+  literal-reads.Asked,
+  literal-reads.Learnt,
+  missing-reads.Asked,
+  missing-reads.Learnt,
+) (unit-at t) unit.Post
+unit-refused-requires t c κs = search needs
+
+unit-returns : (t : ℕ) → unit-lts.Need-returns (
+  is-reads.Asked,
+  is-reads.Learnt,
+  refused-reads.Asked,
+  refused-reads.Learnt,
+  emit-reads.Asked,
+  emit-reads.Learnt,
+  stars-reads.Asked,
+  stars-reads.Learnt,
+  alternation-below t,
+  alternation.Post,
+  unit-at-reads.Asked,
+  unit-at-reads.Learnt,
+  literal-reads.Asked,
+  literal-reads.Learnt,
+  missing-reads.Asked,
+  missing-reads.Learnt,
+) (unit-at t) unit.Post
+unit-returns t c = rw ((c .refused) .ensures) (fails-deep ((c .before .before .before .before .before .before .before .args) .text .now) ((c .before .before .before .before .before .before .before .args) .allowed) ((c .before .before .before .before .before .before .before .args) .at) (sym ((c .before .before .before .is) .ensures) ∙ (c .before .before .if1) .taken) ((c .before .if2) .taken))
+
+unit-add-is : (t : ℕ) → unit-lts.Need-add-is (
+  is-reads.Asked,
+  is-reads.Learnt,
+  refused-reads.Asked,
+  refused-reads.Learnt,
+  emit-reads.Asked,
+  emit-reads.Learnt,
+  stars-reads.Asked,
+  stars-reads.Learnt,
+  alternation-below t,
+  alternation.Post,
+  unit-at-reads.Asked,
+  unit-at-reads.Learnt,
+  literal-reads.Asked,
+  literal-reads.Learnt,
+  missing-reads.Asked,
+  missing-reads.Learnt,
+) (unit-at t) unit.Post
+unit-add-is t c = omega (arith, ((c .before .before .before .before .before .before .pre) .1 .0) .inside, ((c .before .before .before .before .before .before .pre) .1 .0) .short)
+
+unit-is-requires-2 : (t : ℕ) → unit-lts.Need-is-requires-2 (
+  is-reads.Asked,
+  is-reads.Learnt,
+  refused-reads.Asked,
+  refused-reads.Learnt,
+  emit-reads.Asked,
+  emit-reads.Learnt,
+  stars-reads.Asked,
+  stars-reads.Learnt,
+  alternation-below t,
+  alternation.Post,
+  unit-at-reads.Asked,
+  unit-at-reads.Learnt,
+  literal-reads.Asked,
+  literal-reads.Learnt,
+  missing-reads.Asked,
+  missing-reads.Learnt,
+) (unit-at t) unit.Post
+unit-is-requires-2 t c κs = search needs
+
+unit-emit-requires : (t : ℕ) → unit-lts.Need-emit-requires (
+  is-reads.Asked,
+  is-reads.Learnt,
+  refused-reads.Asked,
+  refused-reads.Learnt,
+  emit-reads.Asked,
+  emit-reads.Learnt,
+  stars-reads.Asked,
+  stars-reads.Learnt,
+  alternation-below t,
+  alternation.Post,
+  unit-at-reads.Asked,
+  unit-at-reads.Learnt,
+  literal-reads.Asked,
+  literal-reads.Learnt,
+  missing-reads.Asked,
+  missing-reads.Learnt,
+) (unit-at t) unit.Post
+unit-emit-requires t c κs = search needs
+
+unit-add-stars : (t : ℕ) → unit-lts.Need-add-stars (
+  is-reads.Asked,
+  is-reads.Learnt,
+  refused-reads.Asked,
+  refused-reads.Learnt,
+  emit-reads.Asked,
+  emit-reads.Learnt,
+  stars-reads.Asked,
+  stars-reads.Learnt,
+  alternation-below t,
+  alternation.Post,
+  unit-at-reads.Asked,
+  unit-at-reads.Learnt,
+  literal-reads.Asked,
+  literal-reads.Learnt,
+  missing-reads.Asked,
+  missing-reads.Learnt,
+) (unit-at t) unit.Post
+unit-add-stars t c = omega (arith, ((c .before .before .before .before .before .before .before .before .before .before .before .before .before .pre) .1 .0) .inside, ((c .before .before .before .before .before .before .before .before .before .before .before .before .before .pre) .1 .0) .short)
+
+unit-add-stars-2 : (t : ℕ) → unit-lts.Need-add-stars-2 (
+  is-reads.Asked,
+  is-reads.Learnt,
+  refused-reads.Asked,
+  refused-reads.Learnt,
+  emit-reads.Asked,
+  emit-reads.Learnt,
+  stars-reads.Asked,
+  stars-reads.Learnt,
+  alternation-below t,
+  alternation.Post,
+  unit-at-reads.Asked,
+  unit-at-reads.Learnt,
+  literal-reads.Asked,
+  literal-reads.Learnt,
+  missing-reads.Asked,
+  missing-reads.Learnt,
+) (unit-at t) unit.Post
+unit-add-stars-2 t c = omega (arith, ((c .before .before .before .before .before .before .before .before .before .before .before .before .before .pre) .1 .0) .inside, ((c .before .before .before .before .before .before .before .before .before .before .before .before .before .pre) .1 .0) .short, ((c .before .before .before .before .before .before .before .before .before .before .before .before .before .pre) .1 .0) .nodes)
+
+unit-stars-requires : (t : ℕ) → unit-lts.Need-stars-requires (
+  is-reads.Asked,
+  is-reads.Learnt,
+  refused-reads.Asked,
+  refused-reads.Learnt,
+  emit-reads.Asked,
+  emit-reads.Learnt,
+  stars-reads.Asked,
+  stars-reads.Learnt,
+  alternation-below t,
+  alternation.Post,
+  unit-at-reads.Asked,
+  unit-at-reads.Learnt,
+  literal-reads.Asked,
+  literal-reads.Learnt,
+  missing-reads.Asked,
+  missing-reads.Learnt,
+) (unit-at t) unit.Post
+unit-stars-requires t c κs = void-begun ((c .before .before .before .before .before .before .before .before .before .before .before .before .before .args) .text .now) ((c .before .before .before .before .before .before .before .before .before .before .before .before .before .args) .allowed) ((c .before .before .before .before .before .before .before .before .before .before .before .before .before .args) .at) ((c .before .before .before .before .before .before .before .before .before .before .before .before .before .args) .n) ((c .before .before .before .before .before .before .before .before .before .before .before .before .before .args) .l) ((c .before .before .before .before .before .before .before .before .before .before .before .before .before .args) .nodes .now) ((c .before .before .before .before .before .before .before .before .before .before .before .before .before .args) .lits .now) ((c .before .before .before .before .before .before .before .before .before .before .before .before .before .pre) .1 .0) (((c .before .before .before .before .before .before .before .before .before .before .before .before .before .args) .allowed) - 1) (omega (arith, (c .before .before .before .before .before .before .before .if2) .left)) (sym ((c .before .before .before .before .before .before .before .before .before .is) .ensures) ∙ (c .before .before .before .before .before .before .before .before .if1) .taken) (sym ((c .before .before .before .before .before .before .is2) .ensures) ∙ (c .before .before .before .before .before .if3) .taken)
+
+unit-same-length : (t : ℕ) → unit-lts.Need-same-length (
+  is-reads.Asked,
+  is-reads.Learnt,
+  refused-reads.Asked,
+  refused-reads.Learnt,
+  emit-reads.Asked,
+  emit-reads.Learnt,
+  stars-reads.Asked,
+  stars-reads.Learnt,
+  alternation-below t,
+  alternation.Post,
+  unit-at-reads.Asked,
+  unit-at-reads.Learnt,
+  literal-reads.Asked,
+  literal-reads.Learnt,
+  missing-reads.Asked,
+  missing-reads.Learnt,
+) (unit-at t) unit.Post
+unit-same-length t c = search needs
+
+unit-returns-2 : (t : ℕ) → unit-lts.Need-returns-2 (
+  is-reads.Asked,
+  is-reads.Learnt,
+  refused-reads.Asked,
+  refused-reads.Learnt,
+  emit-reads.Asked,
+  emit-reads.Learnt,
+  stars-reads.Asked,
+  stars-reads.Learnt,
+  alternation-below t,
+  alternation.Post,
+  unit-at-reads.Asked,
+  unit-at-reads.Learnt,
+  literal-reads.Asked,
+  literal-reads.Learnt,
+  missing-reads.Asked,
+  missing-reads.Learnt,
+) (unit-at t) unit.Post
+unit-returns-2 t c = unit-void ((c .before .before .before .before .before .before .before .before .before .before .before .before .before .before .before .before .args) .text .now) ((c .before .before .before .before .before .before .before .before .before .before .before .before .before .before .before .before .args) .allowed) ((c .before .before .before .before .before .before .before .before .before .before .before .before .before .before .before .before .args) .at) ((c .before .before .before .before .before .before .before .before .before .before .before .before .before .before .before .before .args) .n) ((c .before .before .before .before .before .before .before .before .before .before .before .before .before .before .before .before .args) .l) ((c .before .before .before .before .before .before .before .before .before .before .before .before .before .before .before .before .args) .nodes .now) ((c .before .before .before .before .before .before .before .before .before .before .before .before .before .before .before .before .args) .lits .now) ((c .before .before .before .before .before .before .before .before .before .before .before .before .before .before .before .before .pre) .1 .0) (((c .before .before .before .before .before .before .before .before .before .before .before .before .before .before .before .before .args) .allowed) - 1) (omega (arith, (c .before .before .before .before .before .before .before .before .before .before .if2) .left)) (sym ((c .before .before .before .before .before .before .before .before .before .before .before .before .is) .ensures) ∙ (c .before .before .before .before .before .before .before .before .before .before .before .if1) .taken) (sym ((c .before .before .before .before .before .before .before .before .before .is2) .ensures) ∙ (c .before .before .before .before .before .before .before .before .if3) .taken) ((c .before .before .before .before .before .before .emit) .last .0) ((c .before .before .stars) .last .1 .0) ((c .before .before .stars) .result) ((c .before .before .before .before .before .before .emit) .ensures) ((c .before .before .stars) .ensures)
+
+unit-add-alternation : (t : ℕ) → unit-lts.Need-add-alternation (
+  is-reads.Asked,
+  is-reads.Learnt,
+  refused-reads.Asked,
+  refused-reads.Learnt,
+  emit-reads.Asked,
+  emit-reads.Learnt,
+  stars-reads.Asked,
+  stars-reads.Learnt,
+  alternation-below t,
+  alternation.Post,
+  unit-at-reads.Asked,
+  unit-at-reads.Learnt,
+  literal-reads.Asked,
+  literal-reads.Learnt,
+  missing-reads.Asked,
+  missing-reads.Learnt,
+) (unit-at t) unit.Post
+unit-add-alternation t c = omega (arith, ((c .before .before .before .before .before .before .before .before .before .before .pre) .1 .0) .inside, ((c .before .before .before .before .before .before .before .before .before .before .pre) .1 .0) .short)
+
+unit-sub-alternation : (t : ℕ) → unit-lts.Need-sub-alternation (
+  is-reads.Asked,
+  is-reads.Learnt,
+  refused-reads.Asked,
+  refused-reads.Learnt,
+  emit-reads.Asked,
+  emit-reads.Learnt,
+  stars-reads.Asked,
+  stars-reads.Learnt,
+  alternation-below t,
+  alternation.Post,
+  unit-at-reads.Asked,
+  unit-at-reads.Learnt,
+  literal-reads.Asked,
+  literal-reads.Learnt,
+  missing-reads.Asked,
+  missing-reads.Learnt,
+) (unit-at t) unit.Post
+unit-sub-alternation t c = omega (arith, (c .before .before .before .before .if2) .left)
+
+unit-alternation-requires : (t : ℕ) → unit-lts.Need-alternation-requires (
+  is-reads.Asked,
+  is-reads.Learnt,
+  refused-reads.Asked,
+  refused-reads.Learnt,
+  emit-reads.Asked,
+  emit-reads.Learnt,
+  stars-reads.Asked,
+  stars-reads.Learnt,
+  alternation-below t,
+  alternation.Post,
+  unit-at-reads.Asked,
+  unit-at-reads.Learnt,
+  literal-reads.Asked,
+  literal-reads.Learnt,
+  missing-reads.Asked,
+  missing-reads.Learnt,
+) (unit-at t) unit.Post
+unit-alternation-requires t c κs = let i = byte-inside ((c .before .before .before .before .before .before .before .before .before .before .args) .text .now) ((c .before .before .before .before .before .before .before .before .before .before .args) .at) leftParenthesis (sym ((c .before .before .before .before .before .before .is) .ensures) ∙ (c .before .before .before .before .before .if1) .taken) in (omega (arith, (c .before .before .before .before .before .before .before .before .before .before .pre) .0, i, (c .before .before .before .before .if2) .left), (record { inside = omega arith; short = ((c .before .before .before .before .before .before .before .before .before .before .pre) .1 .0) .short; nodes = omega (arith, ((c .before .before .before .before .before .before .before .before .before .before .pre) .1 .0) .nodes); leaves = omega (arith, ((c .before .before .before .before .before .before .before .before .before .before .pre) .1 .0) .leaves) }, omega (arith, (c .before .before .before .before .before .before .before .before .before .before .pre) .1 .1)))
+
+unit-enum-known-r : (t : ℕ) → unit-lts.Need-enum-known-r (
+  is-reads.Asked,
+  is-reads.Learnt,
+  refused-reads.Asked,
+  refused-reads.Learnt,
+  emit-reads.Asked,
+  emit-reads.Learnt,
+  stars-reads.Asked,
+  stars-reads.Learnt,
+  alternation-below t,
+  alternation.Post,
+  unit-at-reads.Asked,
+  unit-at-reads.Learnt,
+  literal-reads.Asked,
+  literal-reads.Learnt,
+  missing-reads.Asked,
+  missing-reads.Learnt,
+) (unit-at t) unit.Post
+unit-enum-known-r t c = search needs
+
+unit-enum-told : (t : ℕ) → unit-lts.Need-enum-told (
+  is-reads.Asked,
+  is-reads.Learnt,
+  refused-reads.Asked,
+  refused-reads.Learnt,
+  emit-reads.Asked,
+  emit-reads.Learnt,
+  stars-reads.Asked,
+  stars-reads.Learnt,
+  alternation-below t,
+  alternation.Post,
+  unit-at-reads.Asked,
+  unit-at-reads.Learnt,
+  literal-reads.Asked,
+  literal-reads.Learnt,
+  missing-reads.Asked,
+  missing-reads.Learnt,
+) (unit-at t) unit.Post
+unit-enum-told t c = search needs
+
+unit-same-length-2 : (t : ℕ) → unit-lts.Need-same-length-2 (
+  is-reads.Asked,
+  is-reads.Learnt,
+  refused-reads.Asked,
+  refused-reads.Learnt,
+  emit-reads.Asked,
+  emit-reads.Learnt,
+  stars-reads.Asked,
+  stars-reads.Learnt,
+  alternation-below t,
+  alternation.Post,
+  unit-at-reads.Asked,
+  unit-at-reads.Learnt,
+  literal-reads.Asked,
+  literal-reads.Learnt,
+  missing-reads.Asked,
+  missing-reads.Learnt,
+) (unit-at t) unit.Post
+unit-same-length-2 t c = search needs
+
+unit-same-length-3 : (t : ℕ) → unit-lts.Need-same-length-3 (
+  is-reads.Asked,
+  is-reads.Learnt,
+  refused-reads.Asked,
+  refused-reads.Learnt,
+  emit-reads.Asked,
+  emit-reads.Learnt,
+  stars-reads.Asked,
+  stars-reads.Learnt,
+  alternation-below t,
+  alternation.Post,
+  unit-at-reads.Asked,
+  unit-at-reads.Learnt,
+  literal-reads.Asked,
+  literal-reads.Learnt,
+  missing-reads.Asked,
+  missing-reads.Learnt,
+) (unit-at t) unit.Post
+unit-same-length-3 t c = search needs
+
+unit-returns-3 : (t : ℕ) → unit-lts.Need-returns-3 (
+  is-reads.Asked,
+  is-reads.Learnt,
+  refused-reads.Asked,
+  refused-reads.Learnt,
+  emit-reads.Asked,
+  emit-reads.Learnt,
+  stars-reads.Asked,
+  stars-reads.Learnt,
+  alternation-below t,
+  alternation.Post,
+  unit-at-reads.Asked,
+  unit-at-reads.Learnt,
+  literal-reads.Asked,
+  literal-reads.Learnt,
+  missing-reads.Asked,
+  missing-reads.Learnt,
+) (unit-at t) unit.Post
+unit-returns-3 t c = unit-up ((c .before .before .before .before .before .before .before .before .before .before .before .before .before .before .before .before .before .args) .text .now) ((c .before .before .before .before .before .before .before .before .before .before .before .before .before .before .before .before .before .args) .allowed) ((c .before .before .before .before .before .before .before .before .before .before .before .before .before .before .before .before .before .args) .at) ((c .before .before .before .before .before .before .before .before .before .before .before .before .before .before .before .before .before .args) .n) ((c .before .before .before .before .before .before .before .before .before .before .before .before .before .before .before .before .before .args) .l) ((c .before .before .before .before .before .before .before .before .before .before .before .before .before .before .before .before .before .args) .nodes .now) ((c .before .before .before .before .before .before .before .before .before .before .before .before .before .before .before .before .before .args) .lits .now) ((c .before .before .before .before .before .before .before .before .before .before .before .before .before .before .before .before .before .pre) .1 .0) (((c .before .before .before .before .before .before .before .before .before .before .before .before .before .before .before .before .before .args) .allowed) - 1) (omega (arith, (c .before .before .before .before .before .before .before .before .before .before .before .if2) .left)) (sym ((c .before .before .before .before .before .before .before .before .before .before .before .before .before .is) .ensures) ∙ (c .before .before .before .before .before .before .before .before .before .before .before .before .if1) .taken) (sym ((c .before .before .before .before .before .before .before .before .before .before .is2) .ensures) ∙ (c .before .before .before .before .before .before .before .before .before .if3) .left) ((c .before .before .before .before .before .before .alternation) .last .1 .0) ((c .before .before .before .before .before .before .alternation) .last .1 .1 .0) ((c .before .before .before .before .before .before .alternation) .result) ((c .before .before .before .before .before .before .alternation) .ensures) ((c .enum-told) .given .0 .0) ((c .enum-told) .given .1)
+
+unit-is-requires-3 : (t : ℕ) → unit-lts.Need-is-requires-3 (
+  is-reads.Asked,
+  is-reads.Learnt,
+  refused-reads.Asked,
+  refused-reads.Learnt,
+  emit-reads.Asked,
+  emit-reads.Learnt,
+  stars-reads.Asked,
+  stars-reads.Learnt,
+  alternation-below t,
+  alternation.Post,
+  unit-at-reads.Asked,
+  unit-at-reads.Learnt,
+  literal-reads.Asked,
+  literal-reads.Learnt,
+  missing-reads.Asked,
+  missing-reads.Learnt,
+) (unit-at t) unit.Post
+unit-is-requires-3 t c κs = search needs
+
+unit-add-stars-3 : (t : ℕ) → unit-lts.Need-add-stars-3 (
+  is-reads.Asked,
+  is-reads.Learnt,
+  refused-reads.Asked,
+  refused-reads.Learnt,
+  emit-reads.Asked,
+  emit-reads.Learnt,
+  stars-reads.Asked,
+  stars-reads.Learnt,
+  alternation-below t,
+  alternation.Post,
+  unit-at-reads.Asked,
+  unit-at-reads.Learnt,
+  literal-reads.Asked,
+  literal-reads.Learnt,
+  missing-reads.Asked,
+  missing-reads.Learnt,
+) (unit-at t) unit.Post
+unit-add-stars-3 t c = let v = inner-onward ((c .before .before .before .before .before .before .before .before .before .before .before .before .before .before .before .before .before .before .before .before .before .args) .text .now) ((c .before .before .before .before .before .before .before .before .before .before .before .before .before .before .before .before .before .before .before .before .before .args) .allowed) ((c .before .before .before .before .before .before .before .before .before .before .before .before .before .before .before .before .before .before .before .before .before .args) .at) ((c .before .before .before .before .before .before .before .before .before .before .before .before .before .before .before .before .before .before .before .before .before .args) .n) ((c .before .before .before .before .before .before .before .before .before .before .before .before .before .before .before .before .before .before .before .before .before .args) .l) ((c .before .before .before .before .before .before .before .before .before .before .before .before .before .before .before .before .before .before .before .before .before .args) .nodes .now) ((c .before .before .before .before .before .before .before .before .before .before .before .before .before .before .before .before .before .before .before .before .before .args) .lits .now) ((c .before .before .before .before .before .before .before .before .before .before .before .before .before .before .before .before .before .before .before .before .before .pre) .1 .0) (((c .before .before .before .before .before .before .before .before .before .before .before .before .before .before .before .before .before .before .before .before .before .args) .allowed) - 1) (omega (arith, (c .before .before .before .before .before .before .before .before .before .before .before .before .before .before .before .if2) .left)) (sym ((c .before .before .before .before .before .before .before .before .before .before .before .before .before .before .before .before .before .is) .ensures) ∙ (c .before .before .before .before .before .before .before .before .before .before .before .before .before .before .before .before .if1) .taken) (sym ((c .before .before .before .before .before .before .before .before .before .before .before .before .before .before .is2) .ensures) ∙ (c .before .before .before .before .before .before .before .before .before .before .before .before .before .if3) .left) ((c .before .before .before .before .before .before .before .before .before .before .alternation) .last .1 .0) ((c .before .before .before .before .before .before .before .before .before .before .alternation) .last .1 .1 .0) ((c .before .before .before .before .before .before .before .before .before .before .alternation) .result) ((c .before .before .before .before .before .before .before .before .before .before .alternation) .ensures) ((c .before .before .before .before .r) .given .0 .0) ((c .before .before .before .before .r) .given .0 .1 .0) ((c .before .before .before .before .r) .given .0 .1 .1 .0) ((c .before .before .before .before .r) .given .1) in omega (arith, v .inside, ((c .before .before .before .before .before .before .before .before .before .before .before .before .before .before .before .before .before .before .before .before .before .pre) .1 .0) .short)
+
+unit-stars-requires-2 : (t : ℕ) → unit-lts.Need-stars-requires-2 (
+  is-reads.Asked,
+  is-reads.Learnt,
+  refused-reads.Asked,
+  refused-reads.Learnt,
+  emit-reads.Asked,
+  emit-reads.Learnt,
+  stars-reads.Asked,
+  stars-reads.Learnt,
+  alternation-below t,
+  alternation.Post,
+  unit-at-reads.Asked,
+  unit-at-reads.Learnt,
+  literal-reads.Asked,
+  literal-reads.Learnt,
+  missing-reads.Asked,
+  missing-reads.Learnt,
+) (unit-at t) unit.Post
+unit-stars-requires-2 t c κs = group-begun ((c .before .before .before .before .before .before .before .before .before .before .before .before .before .before .before .before .before .before .before .before .before .args) .text .now) ((c .before .before .before .before .before .before .before .before .before .before .before .before .before .before .before .before .before .before .before .before .before .args) .allowed) ((c .before .before .before .before .before .before .before .before .before .before .before .before .before .before .before .before .before .before .before .before .before .args) .at) ((c .before .before .before .before .before .before .before .before .before .before .before .before .before .before .before .before .before .before .before .before .before .args) .n) ((c .before .before .before .before .before .before .before .before .before .before .before .before .before .before .before .before .before .before .before .before .before .args) .l) ((c .before .before .before .before .before .before .before .before .before .before .before .before .before .before .before .before .before .before .before .before .before .args) .nodes .now) ((c .before .before .before .before .before .before .before .before .before .before .before .before .before .before .before .before .before .before .before .before .before .args) .lits .now) ((c .before .before .before .before .before .before .before .before .before .before .before .before .before .before .before .before .before .before .before .before .before .pre) .1 .0) (((c .before .before .before .before .before .before .before .before .before .before .before .before .before .before .before .before .before .before .before .before .before .args) .allowed) - 1) (omega (arith, (c .before .before .before .before .before .before .before .before .before .before .before .before .before .before .before .if2) .left)) (sym ((c .before .before .before .before .before .before .before .before .before .before .before .before .before .before .before .before .before .is) .ensures) ∙ (c .before .before .before .before .before .before .before .before .before .before .before .before .before .before .before .before .if1) .taken) (sym ((c .before .before .before .before .before .before .before .before .before .before .before .before .before .before .is2) .ensures) ∙ (c .before .before .before .before .before .before .before .before .before .before .before .before .before .if3) .left) ((c .before .before .before .before .before .before .before .before .before .before .alternation) .last .1 .0) ((c .before .before .before .before .before .before .before .before .before .before .alternation) .last .1 .1 .0) ((c .before .before .before .before .before .before .before .before .before .before .alternation) .result) ((c .before .before .before .before .before .before .before .before .before .before .alternation) .ensures) ((c .before .before .before .before .r) .given .0 .0) ((c .before .before .before .before .r) .given .0 .1 .0) ((c .before .before .before .before .r) .given .0 .1 .1 .0) ((c .before .before .before .before .r) .given .1) (sym ((c .before .before .is3) .ensures) ∙ (c .before .if4) .taken)
+
+unit-same-length-4 : (t : ℕ) → unit-lts.Need-same-length-4 (
+  is-reads.Asked,
+  is-reads.Learnt,
+  refused-reads.Asked,
+  refused-reads.Learnt,
+  emit-reads.Asked,
+  emit-reads.Learnt,
+  stars-reads.Asked,
+  stars-reads.Learnt,
+  alternation-below t,
+  alternation.Post,
+  unit-at-reads.Asked,
+  unit-at-reads.Learnt,
+  literal-reads.Asked,
+  literal-reads.Learnt,
+  missing-reads.Asked,
+  missing-reads.Learnt,
+) (unit-at t) unit.Post
+unit-same-length-4 t c = search needs
+
+unit-same-length-5 : (t : ℕ) → unit-lts.Need-same-length-5 (
+  is-reads.Asked,
+  is-reads.Learnt,
+  refused-reads.Asked,
+  refused-reads.Learnt,
+  emit-reads.Asked,
+  emit-reads.Learnt,
+  stars-reads.Asked,
+  stars-reads.Learnt,
+  alternation-below t,
+  alternation.Post,
+  unit-at-reads.Asked,
+  unit-at-reads.Learnt,
+  literal-reads.Asked,
+  literal-reads.Learnt,
+  missing-reads.Asked,
+  missing-reads.Learnt,
+) (unit-at t) unit.Post
+unit-same-length-5 t c = search needs
+
+unit-returns-4 : (t : ℕ) → unit-lts.Need-returns-4 (
+  is-reads.Asked,
+  is-reads.Learnt,
+  refused-reads.Asked,
+  refused-reads.Learnt,
+  emit-reads.Asked,
+  emit-reads.Learnt,
+  stars-reads.Asked,
+  stars-reads.Learnt,
+  alternation-below t,
+  alternation.Post,
+  unit-at-reads.Asked,
+  unit-at-reads.Learnt,
+  literal-reads.Asked,
+  literal-reads.Learnt,
+  missing-reads.Asked,
+  missing-reads.Learnt,
+) (unit-at t) unit.Post
+unit-returns-4 t c = unit-group ((c .before .before .before .before .before .before .before .before .before .before .before .before .before .before .before .before .before .before .before .before .before .before .before .before .args) .text .now) ((c .before .before .before .before .before .before .before .before .before .before .before .before .before .before .before .before .before .before .before .before .before .before .before .before .args) .allowed) ((c .before .before .before .before .before .before .before .before .before .before .before .before .before .before .before .before .before .before .before .before .before .before .before .before .args) .at) ((c .before .before .before .before .before .before .before .before .before .before .before .before .before .before .before .before .before .before .before .before .before .before .before .before .args) .n) ((c .before .before .before .before .before .before .before .before .before .before .before .before .before .before .before .before .before .before .before .before .before .before .before .before .args) .l) ((c .before .before .before .before .before .before .before .before .before .before .before .before .before .before .before .before .before .before .before .before .before .before .before .before .args) .nodes .now) ((c .before .before .before .before .before .before .before .before .before .before .before .before .before .before .before .before .before .before .before .before .before .before .before .before .args) .lits .now) ((c .before .before .before .before .before .before .before .before .before .before .before .before .before .before .before .before .before .before .before .before .before .before .before .before .pre) .1 .0) (((c .before .before .before .before .before .before .before .before .before .before .before .before .before .before .before .before .before .before .before .before .before .before .before .before .args) .allowed) - 1) (omega (arith, (c .before .before .before .before .before .before .before .before .before .before .before .before .before .before .before .before .before .before .if2) .left)) (sym ((c .before .before .before .before .before .before .before .before .before .before .before .before .before .before .before .before .before .before .before .before .is) .ensures) ∙ (c .before .before .before .before .before .before .before .before .before .before .before .before .before .before .before .before .before .before .before .if1) .taken) (sym ((c .before .before .before .before .before .before .before .before .before .before .before .before .before .before .before .before .before .is2) .ensures) ∙ (c .before .before .before .before .before .before .before .before .before .before .before .before .before .before .before .before .if3) .left) ((c .before .before .before .before .before .before .before .before .before .before .before .before .before .alternation) .last .1 .0) ((c .before .before .before .before .before .before .before .before .before .before .before .before .before .alternation) .last .1 .1 .0) ((c .before .before .before .before .before .before .before .before .before .before .before .before .before .alternation) .result) ((c .before .before .before .before .before .before .before .before .before .before .before .before .before .alternation) .ensures) ((c .before .before .before .before .before .before .before .r) .given .0 .0) ((c .before .before .before .before .before .before .before .r) .given .0 .1 .0) ((c .before .before .before .before .before .before .before .r) .given .0 .1 .1 .0) ((c .before .before .before .before .before .before .before .r) .given .1) (sym ((c .before .before .before .before .before .is3) .ensures) ∙ (c .before .before .before .before .if4) .taken) ((c .before .before .stars2) .last .1 .0) ((c .before .before .stars2) .result) ((c .before .before .stars2) .ensures)
+
+unit-refused-requires-2 : (t : ℕ) → unit-lts.Need-refused-requires-2 (
+  is-reads.Asked,
+  is-reads.Learnt,
+  refused-reads.Asked,
+  refused-reads.Learnt,
+  emit-reads.Asked,
+  emit-reads.Learnt,
+  stars-reads.Asked,
+  stars-reads.Learnt,
+  alternation-below t,
+  alternation.Post,
+  unit-at-reads.Asked,
+  unit-at-reads.Learnt,
+  literal-reads.Asked,
+  literal-reads.Learnt,
+  missing-reads.Asked,
+  missing-reads.Learnt,
+) (unit-at t) unit.Post
+unit-refused-requires-2 t c κs = search needs
+
+unit-same-length-6 : (t : ℕ) → unit-lts.Need-same-length-6 (
+  is-reads.Asked,
+  is-reads.Learnt,
+  refused-reads.Asked,
+  refused-reads.Learnt,
+  emit-reads.Asked,
+  emit-reads.Learnt,
+  stars-reads.Asked,
+  stars-reads.Learnt,
+  alternation-below t,
+  alternation.Post,
+  unit-at-reads.Asked,
+  unit-at-reads.Learnt,
+  literal-reads.Asked,
+  literal-reads.Learnt,
+  missing-reads.Asked,
+  missing-reads.Learnt,
+) (unit-at t) unit.Post
+unit-same-length-6 t c = search needs
+
+unit-same-length-7 : (t : ℕ) → unit-lts.Need-same-length-7 (
+  is-reads.Asked,
+  is-reads.Learnt,
+  refused-reads.Asked,
+  refused-reads.Learnt,
+  emit-reads.Asked,
+  emit-reads.Learnt,
+  stars-reads.Asked,
+  stars-reads.Learnt,
+  alternation-below t,
+  alternation.Post,
+  unit-at-reads.Asked,
+  unit-at-reads.Learnt,
+  literal-reads.Asked,
+  literal-reads.Learnt,
+  missing-reads.Asked,
+  missing-reads.Learnt,
+) (unit-at t) unit.Post
+unit-same-length-7 t c = search needs
+
+unit-returns-5 : (t : ℕ) → unit-lts.Need-returns-5 (
+  is-reads.Asked,
+  is-reads.Learnt,
+  refused-reads.Asked,
+  refused-reads.Learnt,
+  emit-reads.Asked,
+  emit-reads.Learnt,
+  stars-reads.Asked,
+  stars-reads.Learnt,
+  alternation-below t,
+  alternation.Post,
+  unit-at-reads.Asked,
+  unit-at-reads.Learnt,
+  literal-reads.Asked,
+  literal-reads.Learnt,
+  missing-reads.Asked,
+  missing-reads.Learnt,
+) (unit-at t) unit.Post
+unit-returns-5 t c = rw ((c .refused2) .ensures) (unit-unclosed ((c .before .before .before .before .before .before .before .before .before .before .before .before .before .before .before .before .before .before .before .before .before .args) .text .now) ((c .before .before .before .before .before .before .before .before .before .before .before .before .before .before .before .before .before .before .before .before .before .args) .allowed) ((c .before .before .before .before .before .before .before .before .before .before .before .before .before .before .before .before .before .before .before .before .before .args) .at) ((c .before .before .before .before .before .before .before .before .before .before .before .before .before .before .before .before .before .before .before .before .before .args) .n) ((c .before .before .before .before .before .before .before .before .before .before .before .before .before .before .before .before .before .before .before .before .before .args) .l) ((c .before .before .before .before .before .before .before .before .before .before .before .before .before .before .before .before .before .before .before .before .before .args) .nodes .now) ((c .before .before .before .before .before .before .before .before .before .before .before .before .before .before .before .before .before .before .before .before .before .args) .lits .now) ((c .before .before .before .before .before .before .before .before .before .before .before .before .before .before .before .before .before .before .before .before .before .pre) .1 .0) (((c .before .before .before .before .before .before .before .before .before .before .before .before .before .before .before .before .before .before .before .before .before .args) .allowed) - 1) (omega (arith, (c .before .before .before .before .before .before .before .before .before .before .before .before .before .before .before .if2) .left)) (sym ((c .before .before .before .before .before .before .before .before .before .before .before .before .before .before .before .before .before .is) .ensures) ∙ (c .before .before .before .before .before .before .before .before .before .before .before .before .before .before .before .before .if1) .taken) (sym ((c .before .before .before .before .before .before .before .before .before .before .before .before .before .before .is2) .ensures) ∙ (c .before .before .before .before .before .before .before .before .before .before .before .before .before .if3) .left) ((c .before .before .before .before .before .before .before .before .before .before .alternation) .last .1 .0) ((c .before .before .before .before .before .before .before .before .before .before .alternation) .last .1 .1 .0) ((c .before .before .before .before .before .before .before .before .before .before .alternation) .result) ((c .before .before .before .before .before .before .before .before .before .before .alternation) .ensures) ((c .before .before .before .before .r) .given .0 .0) ((c .before .before .before .before .r) .given .0 .1 .0) ((c .before .before .before .before .r) .given .0 .1 .1 .0) ((c .before .before .before .before .r) .given .1) (sym ((c .before .before .is3) .ensures) ∙ (c .before .if4) .left))
+
+unit-unit-at-requires : (t : ℕ) → unit-lts.Need-unit-at-requires (
+  is-reads.Asked,
+  is-reads.Learnt,
+  refused-reads.Asked,
+  refused-reads.Learnt,
+  emit-reads.Asked,
+  emit-reads.Learnt,
+  stars-reads.Asked,
+  stars-reads.Learnt,
+  alternation-below t,
+  alternation.Post,
+  unit-at-reads.Asked,
+  unit-at-reads.Learnt,
+  literal-reads.Asked,
+  literal-reads.Learnt,
+  missing-reads.Asked,
+  missing-reads.Learnt,
+) (unit-at t) unit.Post
+unit-unit-at-requires t c κs = search needs
+
+unit-literal-requires : (t : ℕ) → unit-lts.Need-literal-requires (
+  is-reads.Asked,
+  is-reads.Learnt,
+  refused-reads.Asked,
+  refused-reads.Learnt,
+  emit-reads.Asked,
+  emit-reads.Learnt,
+  stars-reads.Asked,
+  stars-reads.Learnt,
+  alternation-below t,
+  alternation.Post,
+  unit-at-reads.Asked,
+  unit-at-reads.Learnt,
+  literal-reads.Asked,
+  literal-reads.Learnt,
+  missing-reads.Asked,
+  missing-reads.Learnt,
+) (unit-at t) unit.Post
+unit-literal-requires t c κs = (((c .before .before .before .before .before .before .before .before .before .pre) .1 .0), sym ((c .before .before .before .unit-at) .ensures) ∙ (c .before .before .if5) .taken, (sym ((c .before .before .before .before .before .is) .ensures) ∙ (c .before .before .before .before .if1) .left))
+
+unit-same-length-8 : (t : ℕ) → unit-lts.Need-same-length-8 (
+  is-reads.Asked,
+  is-reads.Learnt,
+  refused-reads.Asked,
+  refused-reads.Learnt,
+  emit-reads.Asked,
+  emit-reads.Learnt,
+  stars-reads.Asked,
+  stars-reads.Learnt,
+  alternation-below t,
+  alternation.Post,
+  unit-at-reads.Asked,
+  unit-at-reads.Learnt,
+  literal-reads.Asked,
+  literal-reads.Learnt,
+  missing-reads.Asked,
+  missing-reads.Learnt,
+) (unit-at t) unit.Post
+unit-same-length-8 t c = search needs
+
+unit-same-length-9 : (t : ℕ) → unit-lts.Need-same-length-9 (
+  is-reads.Asked,
+  is-reads.Learnt,
+  refused-reads.Asked,
+  refused-reads.Learnt,
+  emit-reads.Asked,
+  emit-reads.Learnt,
+  stars-reads.Asked,
+  stars-reads.Learnt,
+  alternation-below t,
+  alternation.Post,
+  unit-at-reads.Asked,
+  unit-at-reads.Learnt,
+  literal-reads.Asked,
+  literal-reads.Learnt,
+  missing-reads.Asked,
+  missing-reads.Learnt,
+) (unit-at t) unit.Post
+unit-same-length-9 t c = search needs
+
+unit-returns-6 : (t : ℕ) → unit-lts.Need-returns-6 (
+  is-reads.Asked,
+  is-reads.Learnt,
+  refused-reads.Asked,
+  refused-reads.Learnt,
+  emit-reads.Asked,
+  emit-reads.Learnt,
+  stars-reads.Asked,
+  stars-reads.Learnt,
+  alternation-below t,
+  alternation.Post,
+  unit-at-reads.Asked,
+  unit-at-reads.Learnt,
+  literal-reads.Asked,
+  literal-reads.Learnt,
+  missing-reads.Asked,
+  missing-reads.Learnt,
+) (unit-at t) unit.Post
+unit-returns-6 t c = (c .before .before .before .before .literal) .ensures ((c .before .before .before .before .before .before .before .before .before .before .before .before .before .before .args) .allowed)
+
+unit-missing-requires : (t : ℕ) → unit-lts.Need-missing-requires (
+  is-reads.Asked,
+  is-reads.Learnt,
+  refused-reads.Asked,
+  refused-reads.Learnt,
+  emit-reads.Asked,
+  emit-reads.Learnt,
+  stars-reads.Asked,
+  stars-reads.Learnt,
+  alternation-below t,
+  alternation.Post,
+  unit-at-reads.Asked,
+  unit-at-reads.Learnt,
+  literal-reads.Asked,
+  literal-reads.Learnt,
+  missing-reads.Asked,
+  missing-reads.Learnt,
+) (unit-at t) unit.Post
+unit-missing-requires t c κs = (((c .before .before .before .before .before .before .before .pre) .1 .0) .inside, sym ((c .before .unit-at) .ensures) ∙ (c .if5) .left)
+
+unit-returns-7 : (t : ℕ) → unit-lts.Need-returns-7 (
+  is-reads.Asked,
+  is-reads.Learnt,
+  refused-reads.Asked,
+  refused-reads.Learnt,
+  emit-reads.Asked,
+  emit-reads.Learnt,
+  stars-reads.Asked,
+  stars-reads.Learnt,
+  alternation-below t,
+  alternation.Post,
+  unit-at-reads.Asked,
+  unit-at-reads.Learnt,
+  literal-reads.Asked,
+  literal-reads.Learnt,
+  missing-reads.Asked,
+  missing-reads.Learnt,
+) (unit-at t) unit.Post
+unit-returns-7 t c = missing-read ((c .before .before .before .before .before .before .before .before .args) .text .now) ((c .before .before .before .before .before .before .before .before .args) .allowed) ((c .before .before .before .before .before .before .before .before .args) .at) (out ((c .before .before .before .before .before .before .before .before .args) .n) ((c .before .before .before .before .before .before .before .before .args) .nodes .now) ((c .before .before .before .before .before .before .before .before .args) .l) ((c .before .before .before .before .before .before .before .before .args) .lits .now)) ((c .before .before .before .before .before .before .before .before .args) .nodes .now) ((c .before .before .before .before .before .before .before .before .args) .lits .now) ((c .missing) .result) ((c .missing) .ensures)
+
+pub +alternation+sequence+unit-spec : {M : Type 1} → statement M
++alternation+sequence+unit-spec = close μ-alternation μ-sequence μ-unit (λ t. alternation-lts.spec (
+  sequence-below t,
+  sequence.Post,
+  emit-if-reads.Asked,
+  emit-if-reads.Learnt,
+  is-reads.Asked,
+  is-reads.Learnt,
+)
+    (alternation-at t)
+    alternation.Post
+    alternation-Inv-loop
+    alternation-μ-loop
+    (alternation-loop-holds t)
+    (alternation-sequence-requires t)
+    (alternation-enum-known-r t)
+    (alternation-enum-told t)
+    (alternation-same-length t)
+    (alternation-same-length-2 t)
+    (alternation-returns t)
+    (alternation-emit-if-requires t)
+    (alternation-is-requires t)
+    (alternation-same-length-3 t)
+    (alternation-same-length-4 t)
+    (alternation-returns-2 t)
+    (alternation-add-next t)
+    (alternation-loop-less t)
+    (alternation-loop-again t))
+    (λ t. sequence-lts.spec (
+      unit-below t,
+      unit.Post,
+      emit-if-reads.Asked,
+      emit-if-reads.Learnt,
+      unit-at-reads.Asked,
+      unit-at-reads.Learnt,
+    )
+    (sequence-at t)
+    sequence.Post
+    sequence-Inv-loop
+    sequence-μ-loop
+    (sequence-loop-holds t)
+    (sequence-unit-requires t)
+    (sequence-enum-known-r t)
+    (sequence-enum-told t)
+    (sequence-same-length t)
+    (sequence-same-length-2 t)
+    (sequence-returns t)
+    (sequence-emit-if-requires t)
+    (sequence-unit-at-requires t)
+    (sequence-same-length-3 t)
+    (sequence-same-length-4 t)
+    (sequence-returns-2 t)
+    (sequence-loop-less t)
+    (sequence-loop-again t))
+    λ t. unit-lts.spec (
+      is-reads.Asked,
+      is-reads.Learnt,
+      refused-reads.Asked,
+      refused-reads.Learnt,
+      emit-reads.Asked,
+      emit-reads.Learnt,
+      stars-reads.Asked,
+      stars-reads.Learnt,
+      alternation-below t,
+      alternation.Post,
+      unit-at-reads.Asked,
+      unit-at-reads.Learnt,
+      literal-reads.Asked,
+      literal-reads.Learnt,
+      missing-reads.Asked,
+      missing-reads.Learnt,
+    )
+    (unit-at t)
+    unit.Post
+    (unit-is-requires t)
+    (unit-refused-requires t)
+    (unit-returns t)
+    (unit-add-is t)
+    (unit-is-requires-2 t)
+    (unit-emit-requires t)
+    (unit-add-stars t)
+    (unit-add-stars-2 t)
+    (unit-stars-requires t)
+    (unit-same-length t)
+    (unit-returns-2 t)
+    (unit-add-alternation t)
+    (unit-sub-alternation t)
+    (unit-alternation-requires t)
+    (unit-enum-known-r t)
+    (unit-enum-told t)
+    (unit-same-length-2 t)
+    (unit-same-length-3 t)
+    (unit-returns-3 t)
+    (unit-is-requires-3 t)
+    (unit-add-stars-3 t)
+    (unit-stars-requires-2 t)
+    (unit-same-length-4 t)
+    (unit-same-length-5 t)
+    (unit-returns-4 t)
+    (unit-refused-requires-2 t)
+    (unit-same-length-6 t)
+    (unit-same-length-7 t)
+    (unit-returns-5 t)
+    (unit-unit-at-requires t)
+    (unit-literal-requires t)
+    (unit-same-length-8 t)
+    (unit-same-length-9 t)
+    (unit-returns-6 t)
+    (unit-missing-requires t)
+    (unit-returns-7 t)

@@ -1,0 +1,18 @@
+use borrow.Author.Needs.{needs}
+use lib.Seq.{length-take-le}
+use mathlib.Core.Path.{sym}
+use native.Mathlib.Omega.{arith}
+use Rattle.text_cases.proofs.front.Statement.{statement}
+use Rattle.text_cases.proofs.front.Tie as tie
+
+returns : tie.Need-returns
+returns c = search needs
+
+slice-aggregate-result : tie.Need-slice-aggregate-result
+slice-aggregate-result c = sym (length-take-le 24 ((c .before .before .args) .bytes .now) (omega (arith, (c .before .if1) .left)))
+
+returns-2 : tie.Need-returns-2
+returns-2 c = search needs
+
+pub front-spec : {M : Type 1} → statement M
+front-spec = tie.close (tie.spec returns slice-aggregate-result returns-2)

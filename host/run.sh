@@ -1,0 +1,128 @@
+#!/usr/bin/env bash
+# host/run.sh ARCHIVE_DIR [--long] [--seed N]
+# Holds ARCHIVE_DIR/libsatchelram.a against the second matcher and the documents, compiles the header as C and C++, installs
+# the library into a temporary folder and runs demo.c from there. --long: a much longer comparison, by a seed from the
+# clock. --seed: the first seed of the random inputs (1 otherwise); a failed round prints its own.
+#
+# The archive is x86-64. On an aarch64 machine everything is built for x86-64 with Debian's packages and run by qemu.
+# What is missing is installed with apt-get; nothing is skipped.
+set -euo pipefail
+
+stop() {
+    echo "host/run.sh: $1" >&2
+    exit 1
+}
+
+usage="usage: host/run.sh ARCHIVE_DIR [--long] [--seed N]"
+archive_dir='' seed=''
+unset SATCHELRAM_LONG SATCHELRAM_ROUNDS
+while [ $# -gt 0 ]; do
+    case $1 in
+    --long) export SATCHELRAM_LONG=1 ;;
+    --seed) seed=${2:?$usage} && shift ;;
+    -*) stop "$usage" ;;
+    *)
+        [ -z "$archive_dir" ] || stop "$usage"
+        archive_dir=$1
+        ;;
+    esac
+    shift
+done
+[ -n "$archive_dir" ] || stop "$usage"
+[ -f "$archive_dir/libsatchelram.a" ] || stop "no libsatchelram.a in $archive_dir: make it with rt staticlib satchelram"
+archive_dir=$(cd "$archive_dir" && pwd)
+if [ -z "$seed" ]; then
+    seed=1
+    [ -z "${SATCHELRAM_LONG:-}" ] || seed=$(date +%s)
+fi
+export SATCHELRAM_SEED=$seed SATCHELRAM_LIB_DIR=$archive_dir
+
+cd "$(dirname "$0")/.."
+root=$PWD
+export CARGO_TARGET_DIR=${CARGO_TARGET_DIR:-$root/target/host}
+target=x86_64-unknown-linux-gnu
+
+install_packages() {
+    echo "host/run.sh: installing $*"
+    apt-get update -qq || stop "apt-get update failed"
+    apt-get install -y -qq "$@" || stop "could not install $*"
+}
+
+has_all() {
+    local command
+    for command in "$@"; do
+        command -v "$command" >/dev/null || return 1
+    done
+}
+
+# An x86-64 machine: its own compilers, nothing in front of a program.
+set_up_x86_64() {
+    has_all cargo || install_packages cargo
+    has_all gcc g++ pkg-config || install_packages gcc g++ libc6-dev pkg-config
+    cargo=(cargo) cc=(gcc) cxx=(g++) runner=()
+}
+
+# An aarch64 machine: Debian's rustc with the amd64 std, Debian's cross compilers, qemu in front of a program.
+set_up_aarch64() {
+    if ! has_all /usr/bin/cargo /usr/bin/rustc qemu-x86_64 x86_64-linux-gnu-gcc x86_64-linux-gnu-g++ pkg-config ||
+        [ ! -d /usr/lib/rustlib/$target/lib ]; then
+        dpkg --add-architecture amd64 || stop "dpkg cannot take in amd64"
+        install_packages cargo rustc libstd-rust-dev:amd64 qemu-user gcc-x86-64-linux-gnu g++-x86-64-linux-gnu pkg-config
+    fi
+    cargo=(env RUSTC=/usr/bin/rustc /usr/bin/cargo) cc=(x86_64-linux-gnu-gcc) cxx=(x86_64-linux-gnu-g++) runner=(qemu-x86_64)
+    export CARGO_TARGET_X86_64_UNKNOWN_LINUX_GNU_LINKER=x86_64-linux-gnu-gcc
+    export CARGO_TARGET_X86_64_UNKNOWN_LINUX_GNU_RUNNER=qemu-x86_64
+}
+
+machine=$(uname -m)
+case $machine in
+x86_64 | aarch64) "set_up_$machine" ;;
+*) stop "no way to run x86-64 programs on $machine is written down here" ;;
+esac
+
+temporary=$(mktemp -d)
+trap 'rm -rf "$temporary"' EXIT
+warnings=(-Wall -Wextra -Werror -pedantic -Wconversion -Wshadow)
+
+# The comparison with the second matcher, and the examples of the documents.
+compare() {
+    echo "host/run.sh: comparing, seed $seed"
+    "${cargo[@]}" test --release --offline --quiet --target $target --features archive --manifest-path host/Cargo.toml ||
+        stop "the archive and the second matcher differ, or a test failed"
+}
+
+# hold_header LANGUAGE STANDARD COMPILER..
+hold_header() {
+    local language=$1 standard=$2
+    shift 2
+    "$@" -std="$standard" "${warnings[@]}" -O1 -I include -o "$temporary/header" -x "$language" host/header.c -x none "$archive_dir/libsatchelram.a" ||
+        stop "the header does not compile as $standard"
+    "${runner[@]}" "$temporary/header" || stop "the header and the archive differ ($standard)"
+}
+
+hold_headers() {
+    local standard
+    for standard in c99 c11 c17; do
+        hold_header c "$standard" "${cc[@]}"
+    done
+    for standard in c++98 c++11 c++17; do
+        hold_header c++ "$standard" "${cxx[@]}"
+    done
+}
+
+# demo.c as its first lines say, from an installed library.
+demonstrate() {
+    local flags
+    ./install.sh "$temporary/prefix" "$archive_dir" || stop "the library could not be installed"
+    flags=$(PKG_CONFIG_LIBDIR=$temporary/prefix/lib/pkgconfig pkg-config --cflags --libs satchelram) || stop "pkg-config does not find the library"
+    # shellcheck disable=SC2086 # the flags are words
+    "${cc[@]}" -std=c99 "${warnings[@]}" host/demo.c $flags -o "$temporary/demo" || stop "the demo does not compile"
+    "${runner[@]}" "$temporary/demo" >"$temporary/demo.printed" || stop "the demo failed"
+    diff host/demo.expected "$temporary/demo.printed" || stop "the demo prints something else than host/demo.expected"
+    echo "demo: as expected"
+}
+
+compare
+hold_headers
+demonstrate
+echo "host/run.sh: all passed"
