@@ -4,49 +4,14 @@ ghost use mathlib.Core.List.{[]};
 ghost use Prim.Native.Nat.{_<_};
 ghost use Rattle.text.specs.Outcome.{SheetCall};
 ghost use Rattle.reader.specs.Outcome.{AcceptCall, FirstCall, NextCall, CheckCall};
-ghost use Rattle.reader.specs.Answer.{orDone, numberOf};
-ghost use Rattle.sheet.specs.Answer.{refusalOf};
 ghost use Rattle.satchelram.specs.Packing.{packed, numberRoom, secondRoom};
 ghost use Rattle.satchelram.specs.Exported.{sheetEndIn, endIn, Exports};
-use reader::Answer;
-use sheet::SheetAnswer;
 
 fn pack(number: u64, second: u64) -> u64
     requires { ⌜ (number < numberRoom) × (second < secondRoom) ⌝ }
     ensures { λ r. ⌜ r ≡ packed number second 0 ⌝ }
 {
     number + 256 * second
-}
-
-// The number of each refusal of a sheet, as document 01's table has it.
-fn sheet_number(a: SheetAnswer) -> u64
-    ensures { λ r. ⌜ r ≡ orDone (refusalOf a) ⌝ }
-{
-    match a {
-        SheetAnswer::Accepted => 0,
-        SheetAnswer::OtherForm => 20,
-        SheetAnswer::OtherLength => 21,
-        SheetAnswer::ManyLiterals => 22,
-        SheetAnswer::StrangeEntry => 23,
-        SheetAnswer::FewWaiting => 24,
-        SheetAnswer::NotOneLeft => 25,
-        SheetAnswer::ManyWaiting => 26,
-        SheetAnswer::OtherLeaves => 27,
-    }
-}
-
-fn number_of(a: Answer) -> u64
-    ensures { λ r. ⌜ r ≡ numberOf a ⌝ }
-{
-    match a {
-        Answer::Done => 0,
-        Answer::NotSo => 1,
-        Answer::Sheet(s) => sheet_number(s),
-        Answer::LongName => 30,
-        Answer::ShortMapping => 31,
-        Answer::ShortWork => 32,
-        Answer::GivenNoReading => 33,
-    }
 }
 
 // Makes a sheet of an expression text: 0 with the sheet's length, or a refusal with its place.
@@ -66,7 +31,7 @@ pub extern "C" fn satchelram_sheet(text: &[u8], sheet: &mut [u8]) -> u64
 pub extern "C" fn satchelram_accept(sheet: &[u8], name: &[u8], work: &mut [u8]) -> u64
     ensures { λ r. ⌜ Exports (AcceptCall (now (sheet .entry)) (now (name .entry)) (now (work .entry)) (endIn r [] (now (work .exit)))) r ⌝ }
 {
-    pack(number_of(reader::accept(sheet, name, work)), 0)
+    pack(reader::number(reader::accept(sheet, name, work)), 0)
 }
 
 // The first reading of a name.
@@ -79,7 +44,7 @@ pub extern "C" fn satchelram_first(
 ) -> u64
     ensures { λ r. ⌜ Exports (FirstCall (now (sheet .entry)) (now (name .entry)) (now (mapping .entry)) (now (work .entry)) (endIn r (now (mapping .exit)) (now (work .exit)))) r ⌝ }
 {
-    pack(number_of(reader::first(sheet, name, mapping, work)), 0)
+    pack(reader::number(reader::first(sheet, name, mapping, work)), 0)
 }
 
 // The next reading after the one that the mapping holds.
@@ -92,7 +57,7 @@ pub extern "C" fn satchelram_next(
 ) -> u64
     ensures { λ r. ⌜ Exports (NextCall (now (sheet .entry)) (now (name .entry)) (now (mapping .entry)) (now (work .entry)) (endIn r (now (mapping .exit)) (now (work .exit)))) r ⌝ }
 {
-    pack(number_of(reader::next(sheet, name, mapping, work)), 0)
+    pack(reader::number(reader::next(sheet, name, mapping, work)), 0)
 }
 
 // Whether the sequence that the mapping holds is a reading.
@@ -105,5 +70,5 @@ pub extern "C" fn satchelram_check(
 ) -> u64
     ensures { λ r. ⌜ Exports (CheckCall (now (sheet .entry)) (now (name .entry)) (now (mapping .entry)) (now (work .entry)) (endIn r (now (mapping .entry)) (now (work .exit)))) r ⌝ }
 {
-    pack(number_of(reader::check(sheet, name, mapping, work)), 0)
+    pack(reader::number(reader::check(sheet, name, mapping, work)), 0)
 }

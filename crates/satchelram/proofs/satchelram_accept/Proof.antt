@@ -8,13 +8,13 @@ use Rattle.satchelram.proofs.satchelram_accept.Tie as tie
 accept-requires : tie.Need-accept-requires
 accept-requires c κs = search needs
 
-number-of-requires : tie.Need-number-of-requires
-number-of-requires c κs = search needs
+number-requires : tie.Need-number-requires
+number-requires c κs = search needs
 
 pack-requires : tie.Need-pack-requires
 pack-requires c κs =
     let accept = c .before .before .before .accept in
-    (rw ((c .number-of) .ensures) (number-small (accept .result)), omega arith)
+    (rw ((c .number) .ensures) (number-small (accept .result)), omega arith)
 
 same-length : tie.Need-same-length
 same-length c = search needs
@@ -23,8 +23,8 @@ returns : tie.Need-returns
 returns c =
     let accept = c .before .before .before .before .accept in
     let args = c .before .before .before .before .before .before .before .before .before .args in
-    name-exports (AcceptCall (args .sheet .now) (args .name .now) (args .work .now)) (accept .result) _ _ ((c .before .number-of) .result) ((c .pack) .result) ((c .before .number-of) .ensures) ((c .pack) .ensures) (accept .ensures)
+    name-exports (AcceptCall (args .sheet .now) (args .name .now) (args .work .now)) (accept .result) _ _ ((c .before .number) .result) ((c .pack) .result) ((c .before .number) .ensures) ((c .pack) .ensures) (accept .ensures)
 
 pub satchelram-accept-spec : {M : Type 1} → statement M
 satchelram-accept-spec =
-    tie.close (tie.spec accept-requires number-of-requires pack-requires same-length returns)
+    tie.close (tie.spec accept-requires number-requires pack-requires same-length returns)

@@ -8,13 +8,13 @@ use Rattle.satchelram.proofs.satchelram_check.Tie as tie
 check-requires : tie.Need-check-requires
 check-requires c κs = search needs
 
-number-of-requires : tie.Need-number-of-requires
-number-of-requires c κs = search needs
+number-requires : tie.Need-number-requires
+number-requires c κs = search needs
 
 pack-requires : tie.Need-pack-requires
 pack-requires c κs =
     let check = c .before .before .before .check in
-    (rw ((c .number-of) .ensures) (number-small (check .result)), omega arith)
+    (rw ((c .number) .ensures) (number-small (check .result)), omega arith)
 
 same-length : tie.Need-same-length
 same-length c = search needs
@@ -23,8 +23,8 @@ returns : tie.Need-returns
 returns c =
     let check = c .before .before .before .before .check in
     let args = c .before .before .before .before .before .before .before .before .before .before .args in
-    name-exports (CheckCall (args .sheet .now) (args .name .now) (args .mapping .now) (args .work .now)) (check .result) _ _ ((c .before .number-of) .result) ((c .pack) .result) ((c .before .number-of) .ensures) ((c .pack) .ensures) (check .ensures)
+    name-exports (CheckCall (args .sheet .now) (args .name .now) (args .mapping .now) (args .work .now)) (check .result) _ _ ((c .before .number) .result) ((c .pack) .result) ((c .before .number) .ensures) ((c .pack) .ensures) (check .ensures)
 
 pub satchelram-check-spec : {M : Type 1} → statement M
 satchelram-check-spec =
-    tie.close (tie.spec check-requires number-of-requires pack-requires same-length returns)
+    tie.close (tie.spec check-requires number-requires pack-requires same-length returns)

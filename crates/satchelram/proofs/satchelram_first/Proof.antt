@@ -8,13 +8,13 @@ use Rattle.satchelram.proofs.satchelram_first.Tie as tie
 first-requires : tie.Need-first-requires
 first-requires c κs = search needs
 
-number-of-requires : tie.Need-number-of-requires
-number-of-requires c κs = search needs
+number-requires : tie.Need-number-requires
+number-requires c κs = search needs
 
 pack-requires : tie.Need-pack-requires
 pack-requires c κs =
     let first = c .before .before .before .before .before .first in
-    (rw ((c .number-of) .ensures) (number-small (first .result)), omega arith)
+    (rw ((c .number) .ensures) (number-small (first .result)), omega arith)
 
 same-length : tie.Need-same-length
 same-length c = search needs
@@ -26,9 +26,9 @@ returns : tie.Need-returns
 returns c =
     let first = c .before .before .before .before .before .before .first in
     let args = c .before .before .before .before .before .before .before .before .before .before .before .before .before .args in
-    name-exports (FirstCall (args .sheet .now) (args .name .now) (args .mapping .now) (args .work .now)) (first .result) _ _ ((c .before .number-of) .result) ((c .pack) .result) ((c .before .number-of) .ensures) ((c .pack) .ensures) (first .ensures)
+    name-exports (FirstCall (args .sheet .now) (args .name .now) (args .mapping .now) (args .work .now)) (first .result) _ _ ((c .before .number) .result) ((c .pack) .result) ((c .before .number) .ensures) ((c .pack) .ensures) (first .ensures)
 
 pub satchelram-first-spec : {M : Type 1} → statement M
 satchelram-first-spec =
     tie.close
-    (tie.spec first-requires number-of-requires pack-requires same-length same-length-2 returns)
+    (tie.spec first-requires number-requires pack-requires same-length same-length-2 returns)

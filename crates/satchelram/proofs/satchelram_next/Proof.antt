@@ -8,13 +8,13 @@ use Rattle.satchelram.proofs.satchelram_next.Tie as tie
 next-requires : tie.Need-next-requires
 next-requires c κs = search needs
 
-number-of-requires : tie.Need-number-of-requires
-number-of-requires c κs = search needs
+number-requires : tie.Need-number-requires
+number-requires c κs = search needs
 
 pack-requires : tie.Need-pack-requires
 pack-requires c κs =
     let next = c .before .before .before .before .before .next in
-    (rw ((c .number-of) .ensures) (number-small (next .result)), omega arith)
+    (rw ((c .number) .ensures) (number-small (next .result)), omega arith)
 
 same-length : tie.Need-same-length
 same-length c = search needs
@@ -26,9 +26,9 @@ returns : tie.Need-returns
 returns c =
     let next = c .before .before .before .before .before .before .next in
     let args = c .before .before .before .before .before .before .before .before .before .before .before .before .before .args in
-    name-exports (NextCall (args .sheet .now) (args .name .now) (args .mapping .now) (args .work .now)) (next .result) _ _ ((c .before .number-of) .result) ((c .pack) .result) ((c .before .number-of) .ensures) ((c .pack) .ensures) (next .ensures)
+    name-exports (NextCall (args .sheet .now) (args .name .now) (args .mapping .now) (args .work .now)) (next .result) _ _ ((c .before .number) .result) ((c .pack) .result) ((c .before .number) .ensures) ((c .pack) .ensures) (next .ensures)
 
 pub satchelram-next-spec : {M : Type 1} → statement M
 satchelram-next-spec =
     tie.close
-    (tie.spec next-requires number-of-requires pack-requires same-length same-length-2 returns)
+    (tie.spec next-requires number-requires pack-requires same-length same-length-2 returns)
