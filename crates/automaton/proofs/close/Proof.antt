@@ -27,11 +27,16 @@ same-length c = search needs
 
 returns : tie.Need-returns
 returns c =
-    let g = c .before .before .before .before .before .before .before .before .before .before .before .before .args in
-    let h = c .before .before .before .before .before .before .before .before .before .has-at in
-    let x = c .before .before .before .before .before .before .drop-start in
-    let y = c .before .before .join-within in
-    close-so (g .stops .now) (x .last .0) (y .last .0) (g .k) (sym (h .ensures) ∙ c .before .before .before .before .before .before .before .before .if1 .taken) (x .ensures) (y .ensures)
+    let join-within = c .before .before .join-within in
+    let drop-start = c .before .before .before .before .before .before .drop-start in
+    let if1 = c .before .before .before .before .before .before .before .before .if1 in
+    let has-at = c .before .before .before .before .before .before .before .before .before .has-at in
+    let args = c .before .before .before .before .before .before .before .before .before .before .before .before .args in
+    let g = args in
+    let h = has-at in
+    let x = drop-start in
+    let y = join-within in
+    close-so (g .stops .now) (x .last .0) (y .last .0) (g .k) (sym (h .ensures) ∙ if1 .taken) (x .ensures) (y .ensures)
 
 add-copy-within : tie.Need-add-copy-within
 add-copy-within c = search needs
@@ -44,10 +49,14 @@ same-length-2 c = search needs
 
 returns-2 : tie.Need-returns-2
 returns-2 c =
-    let g = c .before .before .before .before .before .before .before .before .args in
-    let h = c .before .before .before .before .before .has-at in
-    let x = c .before .before .copy-within in
-    close-not (g .stops .now) (x .last .0) (g .k) (sym (h .ensures) ∙ c .before .before .before .before .if1 .left) (x .ensures)
+    let copy-within = c .before .before .copy-within in
+    let if1 = c .before .before .before .before .if1 in
+    let has-at = c .before .before .before .before .before .has-at in
+    let args = c .before .before .before .before .before .before .before .before .args in
+    let g = args in
+    let h = has-at in
+    let x = copy-within in
+    close-not (g .stops .now) (x .last .0) (g .k) (sym (h .ensures) ∙ if1 .left) (x .ensures)
 
 pub close-spec : {M : Type 1} → statement M
 close-spec =

@@ -26,10 +26,14 @@ same-length-3 c = search needs
 
 returns : tie.Need-returns
 returns c =
-    let g = c .before .before .before .before .before .before .before .before .before .before .before .before .before .before .before .before .before .before .args in
-    let x = c .before .before .before .before .before .before .before .before .before .before .before .link in
-    let y = c .before .before .before .before .before .before .reach in
-    let z = c .before .before .close in
+    let close = c .before .before .close in
+    let reach = c .before .before .before .before .before .before .reach in
+    let link = c .before .before .before .before .before .before .before .before .before .before .before .link in
+    let args = c .before .before .before .before .before .before .before .before .before .before .before .before .before .before .before .before .before .before .args in
+    let g = args in
+    let x = link in
+    let y = reach in
+    let z = close in
     cat-law (g .follow .now) (x .last .0) (g .firsts .now) (y .last .0) (g .stops .now) (z .last .0) (g .k) (x .ensures) (y .ensures) (z .ensures)
 
 pub put-cat-spec : {M : Type 1} → statement M

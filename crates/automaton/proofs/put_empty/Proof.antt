@@ -17,9 +17,12 @@ same-length-2 c = search needs
 
 returns : tie.Need-returns
 returns c =
-    let g = c .before .before .before .before .before .before .before .before .before .before .args in
-    let x = c .before .before .before .before .before .before .clear in
-    let y = c .before .before .single in
+    let single = c .before .before .single in
+    let clear = c .before .before .before .before .before .before .clear in
+    let args = c .before .before .before .before .before .before .before .before .before .before .args in
+    let g = args in
+    let x = clear in
+    let y = single in
     empty-law (g .firsts .now) (g .stops .now) (x .last .0) (y .last .0) (g .k) (replaced (λ p q l. x .ensures p q)) (replaced (λ p q l. y .ensures p q))
 
 pub put-empty-spec : {M : Type 1} → statement M

@@ -18,9 +18,12 @@ same-length-2 c = search needs
 
 returns : tie.Need-returns
 returns c =
-    let g = c .before .before .before .before .before .before .before .before .before .before .args in
-    let x = c .before .before .before .before .before .before .single in
-    let y = c .before .before .single2 in
+    let single2 = c .before .before .single2 in
+    let single = c .before .before .before .before .before .before .single in
+    let args = c .before .before .before .before .before .before .before .before .before .before .args in
+    let g = args in
+    let x = single in
+    let y = single2 in
     leaf-law (g .firsts .now) (g .stops .now) (x .last .0) (y .last .0) (g .k) (g .p) (omega arith) (replaced (λ p q l. x .ensures p q)) (replaced (λ p q l. y .ensures p q))
 
 pub put-leaf-spec : {M : Type 1} → statement M

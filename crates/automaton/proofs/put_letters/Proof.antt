@@ -18,7 +18,9 @@ abbrev μ-loop : tie.MeasureT-loop
 
 shared-slice-read-wide : tie.Need-shared-slice-read-wide Inv-loop μ-loop
 shared-slice-read-wide c =
-    let d = conditions (c .before .before .before .args .sheet .now) (c .before .before .before .pre .0) in
+    let args = c .before .before .before .args in
+    let pre = c .before .before .before .pre in
+    let d = conditions (args .sheet .now) (pre .0) in
     omega (arith, d .counts)
 
 wide-requires : tie.Need-wide-requires Inv-loop μ-loop
@@ -26,20 +28,26 @@ wide-requires c κs = search needs
 
 loop-holds : tie.Need-loop-holds Inv-loop μ-loop
 loop-holds c =
-    let g = c .before .before .before .before .args in
-    (omega arith, refl, letters-start (g .sheet .now) (g .letters .now) (c .before .before .before .before .pre .1))
+    let args = c .before .before .before .before .args in
+    let pre = c .before .before .before .before .pre in
+    let g = args in
+    (omega arith, refl, letters-start (g .sheet .now) (g .letters .now) (pre .1))
 
 add-p : tie.Need-add-p Inv-loop μ-loop
 add-p c = search needs
 
 add-wide : tie.Need-add-wide Inv-loop μ-loop
 add-wide c =
-    let d = conditions (c .before .before .before .before .before .before .before .args .sheet .now) (c .before .before .before .before .before .before .before .pre .0) in
+    let args = c .before .before .before .before .before .before .before .args in
+    let pre = c .before .before .before .before .before .before .before .pre in
+    let d = conditions (args .sheet .now) (pre .0) in
     omega (arith, d .few)
 
 shared-slice-read-wide-2 : tie.Need-shared-slice-read-wide-2 Inv-loop μ-loop
 shared-slice-read-wide-2 c =
-    let d = conditions (c .before .before .before .before .before .before .before .before .args .sheet .now) (c .before .before .before .before .before .before .before .before .pre .0) in
+    let args = c .before .before .before .before .before .before .before .before .args in
+    let pre = c .before .before .before .before .before .before .before .before .pre in
+    let d = conditions (args .sheet .now) (pre .0) in
     omega (arith, d .few, d .counts)
 
 wide-requires-2 : tie.Need-wide-requires-2 Inv-loop μ-loop
@@ -47,7 +55,9 @@ wide-requires-2 c κs = search needs
 
 insert-requires : tie.Need-insert-requires Inv-loop μ-loop
 insert-requires c κs =
-    let d = conditions (c .before .before .before .before .before .before .before .before .before .args .sheet .now) (c .before .before .before .before .before .before .before .before .before .pre .0) in
+    let args = c .before .before .before .before .before .before .before .before .before .args in
+    let pre = c .before .before .before .before .before .before .before .before .before .pre in
+    let d = conditions (args .sheet .now) (pre .0) in
     omega (arith, d .few)
 
 loop-less : tie.Need-loop-less Inv-loop μ-loop
@@ -55,18 +65,24 @@ loop-less c = search needs
 
 loop-again : tie.Need-loop-again Inv-loop μ-loop
 loop-again c =
-    let l = c .before .before .before .before .before .before .before .loop in
-    let w = c .before .before .before .wide2 in
-    let x = c .before .before .insert in
-    (omega arith, omega arith, letters-turn (c .before .before .before .before .before .before .before .before .before .before .before .before .args .sheet .now) (l .letters) (x .last .0) (l .p) (w .result) (w .ensures .0) (l .inv .2) (x .ensures))
+    let insert = c .before .before .insert in
+    let wide2 = c .before .before .before .wide2 in
+    let loop = c .before .before .before .before .before .before .before .loop in
+    let args = c .before .before .before .before .before .before .before .before .before .before .before .before .args in
+    let l = loop in
+    let w = wide2 in
+    let x = insert in
+    (omega arith, omega arith, letters-turn (args .sheet .now) (l .letters) (x .last .0) (l .p) (w .result) (w .ensures .0) (l .inv .2) (x .ensures))
 
 same-length : tie.Need-same-length Inv-loop μ-loop
 same-length c = search needs
 
 returns : tie.Need-returns Inv-loop μ-loop
 returns c =
+    let wide = c .before .before .wide in
+    let args = c .before .before .before .before .before .before .args in
     let l = c .before .loop in
-    let e : l .p ≡ leafCount (c .before .before .before .before .before .before .args .sheet .now) = omega (arith, c .before .before .wide .ensures .0) in
+    let e : l .p ≡ leafCount (args .sheet .now) = omega (arith, wide .ensures .0) in
     rw e at (l .inv .2)
 
 pub put-letters-spec : {M : Type 1} → statement M

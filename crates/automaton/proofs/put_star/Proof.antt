@@ -18,9 +18,12 @@ same-length-2 c = search needs
 
 returns : tie.Need-returns
 returns c =
-    let g = c .before .before .before .before .before .before .before .before .before .before .before .before .args in
-    let x = c .before .before .before .before .before .before .link in
-    let y = c .before .before .insert in
+    let insert = c .before .before .insert in
+    let link = c .before .before .before .before .before .before .link in
+    let args = c .before .before .before .before .before .before .before .before .before .before .before .before .args in
+    let g = args in
+    let x = link in
+    let y = insert in
     star-law (g .follow .now) (x .last .0) (g .firsts .now) (g .firsts .now) (g .stops .now) (y .last .0) (g .k) (x .ensures) (enlarged (λ q. eqb q 0) (y .ensures))
 
 pub put-star-spec : {M : Type 1} → statement M

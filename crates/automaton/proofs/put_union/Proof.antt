@@ -22,11 +22,14 @@ same-length-2 c = search needs
 
 returns : tie.Need-returns
 returns c =
-    let k = c .before .before .before .before .before .before .before .before .before .before .args .k in
-    let f = c .before .before .before .before .before .before .before .before .before .before .args .firsts .now in
-    let s = c .before .before .before .before .before .before .before .before .before .before .args .stops .now in
-    let x = c .before .before .before .before .before .before .join-within in
-    let y = c .before .before .join-within2 in
+    let join-within2 = c .before .before .join-within2 in
+    let join-within = c .before .before .before .before .before .before .join-within in
+    let args = c .before .before .before .before .before .before .before .before .before .before .args in
+    let k = args .k in
+    let f = args .firsts .now in
+    let s = args .stops .now in
+    let x = join-within in
+    let y = join-within2 in
     alt-law f s (x .last .0) (y .last .0) k (enlarged (has f (k + 1)) (x .ensures)) (enlarged (has s (k + 1)) (y .ensures))
 
 pub put-union-spec : {M : Type 1} → statement M

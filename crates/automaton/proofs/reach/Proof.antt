@@ -10,7 +10,8 @@ has-at-requires c κs = search needs
 
 returns : tie.Need-returns
 returns c =
-    let g = c .before .before .before .before .args in
+    let args = c .before .before .before .before .args in
+    let g = args in
     let h = c .before .has-at in
     reach-not (g .firsts .now) (g .stops .now) (g .k) (sym (h .ensures) ∙ not-true _ (c .if1 .taken))
 
@@ -25,10 +26,14 @@ same-length c = search needs
 
 returns-2 : tie.Need-returns-2
 returns-2 c =
-    let g = c .before .before .before .before .before .before .before .before .args in
-    let h = c .before .before .before .before .before .has-at in
-    let x = c .before .before .join-within in
-    reach-so (g .firsts .now) (x .last .0) (g .stops .now) (g .k) (sym (h .ensures) ∙ not-false _ (c .before .before .before .before .if1 .left)) (x .ensures)
+    let join-within = c .before .before .join-within in
+    let if1 = c .before .before .before .before .if1 in
+    let has-at = c .before .before .before .before .before .has-at in
+    let args = c .before .before .before .before .before .before .before .before .args in
+    let g = args in
+    let h = has-at in
+    let x = join-within in
+    reach-so (g .firsts .now) (x .last .0) (g .stops .now) (g .k) (sym (h .ensures) ∙ not-false _ (if1 .left)) (x .ensures)
 
 pub reach-spec : {M : Type 1} → statement M
 reach-spec =

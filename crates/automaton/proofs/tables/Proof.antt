@@ -11,7 +11,8 @@ slice-aggregate-walk-2 c = search needs
 
 walk-requires : tie.Need-walk-requires
 walk-requires c κs =
-    let p = c .before .before .before .before .before .before .before .pre in
+    let pre = c .before .before .before .before .before .before .before .pre in
+    let p = pre in
     ((p .0 .0, p .0 .1), search needs)
 
 slice-aggregate-copy-set : tie.Need-slice-aggregate-copy-set
@@ -28,7 +29,8 @@ copy-set-requires-2 c κs = search needs
 
 put-letters-requires : tie.Need-put-letters-requires
 put-letters-requires c κs =
-    let p = c .before .before .before .before .before .before .before .before .before .before .before .before .before .before .before .before .before .before .before .before .before .before .before .pre in
+    let pre = c .before .before .before .before .before .before .before .before .before .before .before .before .before .before .before .before .before .before .before .before .before .before .before .pre in
+    let p = pre in
     (p .0 .0, p .0 .2, search needs)
 
 same-length : tie.Need-same-length
@@ -42,12 +44,18 @@ same-length-3 c = search needs
 
 returns : tie.Need-returns
 returns c =
-    let g = c .before .before .before .before .before .before .before .before .before .before .before .before .before .before .before .before .before .before .before .before .before .before .before .before .before .before .args in
-    let w = c .before .before .before .before .before .before .before .before .before .before .before .before .before .before .before .before .before .before .walk in
-    let x = c .before .before .before .before .before .before .before .before .before .before .before .copy-set in
-    let y = c .before .before .before .before .before .before .copy-set2 in
-    let z = c .before .before .put-letters in
-    finished (g .sheet .now) (w .last .1 .0) (x .last .0) (w .last .1 .1 .0) (w .last .1 .1 .1 .0) (g .stop .now) (y .last .0) (z .last .1 .0) (c .before .before .before .before .before .before .before .before .before .before .before .before .before .before .before .before .before .before .before .before .before .before .before .before .before .before .pre .0 .0) (w .ensures) (x .ensures) (y .ensures) (z .ensures)
+    let put-letters = c .before .before .put-letters in
+    let copy-set2 = c .before .before .before .before .before .before .copy-set2 in
+    let copy-set = c .before .before .before .before .before .before .before .before .before .before .before .copy-set in
+    let walk = c .before .before .before .before .before .before .before .before .before .before .before .before .before .before .before .before .before .before .walk in
+    let args = c .before .before .before .before .before .before .before .before .before .before .before .before .before .before .before .before .before .before .before .before .before .before .before .before .before .before .args in
+    let pre = c .before .before .before .before .before .before .before .before .before .before .before .before .before .before .before .before .before .before .before .before .before .before .before .before .before .before .pre in
+    let g = args in
+    let w = walk in
+    let x = copy-set in
+    let y = copy-set2 in
+    let z = put-letters in
+    finished (g .sheet .now) (w .last .1 .0) (x .last .0) (w .last .1 .1 .0) (w .last .1 .1 .1 .0) (g .stop .now) (y .last .0) (z .last .1 .0) (pre .0 .0) (w .ensures) (x .ensures) (y .ensures) (z .ensures)
 
 pub tables-spec : {M : Type 1} → statement M
 tables-spec =

@@ -17,7 +17,9 @@ abbrev μ-loop : tie.MeasureT-loop
 
 shared-slice-read-wide : tie.Need-shared-slice-read-wide Inv-loop μ-loop
 shared-slice-read-wide c =
-    let d = conditions (c .before .before .before .before .before .args .sheet .now) (c .before .before .before .before .before .pre .0 .0) in
+    let args = c .before .before .before .before .before .args in
+    let pre = c .before .before .before .before .before .pre in
+    let d = conditions (args .sheet .now) (pre .0 .0) in
     omega (arith, d .counts)
 
 wide-requires : tie.Need-wide-requires Inv-loop μ-loop
@@ -28,9 +30,12 @@ add-at c = search needs
 
 loop-holds : tie.Need-loop-holds Inv-loop μ-loop
 loop-holds c =
-    let s = c .before .before .before .before .before .before .args .sheet .now in
-    let f = c .before .before .before .before .before .shared-slice-known .given (2 + leafCount s) .fits in
-    (refl, refl, refl, start s _ _ _ (c .before .before .before .before .before .before .pre .0 .0) (omega (arith, f)) (c .before .before .before .before .before .before .pre .0 .1) _ (ap (λ (n : ℕ). 3 + n) (c .wide .ensures .0)))
+    let shared-slice-known = c .before .before .before .before .before .shared-slice-known in
+    let args = c .before .before .before .before .before .before .args in
+    let pre = c .before .before .before .before .before .before .pre in
+    let s = args .sheet .now in
+    let f = shared-slice-known .given (2 + leafCount s) .fits in
+    (refl, refl, refl, start s _ _ _ (pre .0 .0) (omega (arith, f)) (pre .0 .1) _ (ap (λ (n : ℕ). 3 + n) (c .wide .ensures .0)))
 
 shared-slice-read-node : tie.Need-shared-slice-read-node Inv-loop μ-loop
 shared-slice-read-node c = search needs
@@ -40,23 +45,32 @@ add-at-2 c = search needs
 
 put-leaf-requires : tie.Need-put-leaf-requires Inv-loop μ-loop
 put-leaf-requires c κs =
-    let s = c .before .before .before .before .before .before .before .before .before .before .before .before .args .sheet .now in
-    let l = c .before .before .before .before .before .loop in
-    let f = leaf-fits s (l .at) (l .top) (l .p) (l .follow) (l .firsts) (l .stops) (l .inv .3) (omega arith) (c .before .before .if1 .taken) in
+    let if1 = c .before .before .if1 in
+    let loop = c .before .before .before .before .before .loop in
+    let args = c .before .before .before .before .before .before .before .before .before .before .before .before .args in
+    let s = args .sheet .now in
+    let l = loop in
+    let f = leaf-fits s (l .at) (l .top) (l .p) (l .follow) (l .firsts) (l .stops) (l .inv .3) (omega arith) (if1 .taken) in
     omega arith
 
 add-top : tie.Need-add-top Inv-loop μ-loop
 add-top c =
-    let s = c .before .before .before .before .before .before .before .before .before .before .before .before .before .before .before .before .before .args .sheet .now in
-    let l = c .before .before .before .before .before .before .before .before .before .before .loop in
-    let f = leaf-fits s (l .at) (l .top) (l .p) (l .follow) (l .firsts) (l .stops) (l .inv .3) (omega arith) (c .before .before .before .before .before .before .before .if1 .taken) in
+    let if1 = c .before .before .before .before .before .before .before .if1 in
+    let loop = c .before .before .before .before .before .before .before .before .before .before .loop in
+    let args = c .before .before .before .before .before .before .before .before .before .before .before .before .before .before .before .before .before .args in
+    let s = args .sheet .now in
+    let l = loop in
+    let f = leaf-fits s (l .at) (l .top) (l .p) (l .follow) (l .firsts) (l .stops) (l .inv .3) (omega arith) (if1 .taken) in
     omega arith
 
 add-p : tie.Need-add-p Inv-loop μ-loop
 add-p c =
-    let s = c .before .before .before .before .before .before .before .before .before .before .before .before .before .before .before .before .before .args .sheet .now in
-    let l = c .before .before .before .before .before .before .before .before .before .before .loop in
-    let f = leaf-fits s (l .at) (l .top) (l .p) (l .follow) (l .firsts) (l .stops) (l .inv .3) (omega arith) (c .before .before .before .before .before .before .before .if1 .taken) in
+    let if1 = c .before .before .before .before .before .before .before .if1 in
+    let loop = c .before .before .before .before .before .before .before .before .before .before .loop in
+    let args = c .before .before .before .before .before .before .before .before .before .before .before .before .before .before .before .before .before .args in
+    let s = args .sheet .now in
+    let l = loop in
+    let f = leaf-fits s (l .at) (l .top) (l .p) (l .follow) (l .firsts) (l .stops) (l .inv .3) (omega arith) (if1 .taken) in
     omega arith
 
 loop-less : tie.Need-loop-less Inv-loop μ-loop
@@ -64,23 +78,33 @@ loop-less c = search needs
 
 loop-again : tie.Need-loop-again Inv-loop μ-loop
 loop-again c =
-    let s = c .before .before .before .before .before .before .before .before .before .before .before .before .before .before .before .before .before .args .sheet .now in
-    let l = c .before .before .before .before .before .before .before .before .before .before .loop in
-    let x = c .before .before .before .before .put-leaf in
-    (omega arith, omega arith, omega arith, leaf-turn s (l .at) (l .top) (l .p) (l .follow) (l .firsts) (l .stops) (l .inv .3) (omega arith) (c .before .before .before .before .before .before .before .if1 .taken) (x .last .0) (x .last .1 .0) (x .ensures))
+    let put-leaf = c .before .before .before .before .put-leaf in
+    let if1 = c .before .before .before .before .before .before .before .if1 in
+    let loop = c .before .before .before .before .before .before .before .before .before .before .loop in
+    let args = c .before .before .before .before .before .before .before .before .before .before .before .before .before .before .before .before .before .args in
+    let s = args .sheet .now in
+    let l = loop in
+    let x = put-leaf in
+    (omega arith, omega arith, omega arith, leaf-turn s (l .at) (l .top) (l .p) (l .follow) (l .firsts) (l .stops) (l .inv .3) (omega arith) (if1 .taken) (x .last .0) (x .last .1 .0) (x .ensures))
 
 put-empty-requires : tie.Need-put-empty-requires Inv-loop μ-loop
 put-empty-requires c κs =
-    let s = c .before .before .before .before .before .before .before .before .before .before .before .before .before .args .sheet .now in
-    let l = c .before .before .before .before .before .before .loop in
-    let f = empty-fits s (l .at) (l .top) (l .p) (l .follow) (l .firsts) (l .stops) (l .inv .3) (omega arith) (c .before .before .if2 .taken) in
+    let if2 = c .before .before .if2 in
+    let loop = c .before .before .before .before .before .before .loop in
+    let args = c .before .before .before .before .before .before .before .before .before .before .before .before .before .args in
+    let s = args .sheet .now in
+    let l = loop in
+    let f = empty-fits s (l .at) (l .top) (l .p) (l .follow) (l .firsts) (l .stops) (l .inv .3) (omega arith) (if2 .taken) in
     omega arith
 
 add-top-2 : tie.Need-add-top-2 Inv-loop μ-loop
 add-top-2 c =
-    let s = c .before .before .before .before .before .before .before .before .before .before .before .before .before .before .before .before .before .before .args .sheet .now in
-    let l = c .before .before .before .before .before .before .before .before .before .before .before .loop in
-    let f = empty-fits s (l .at) (l .top) (l .p) (l .follow) (l .firsts) (l .stops) (l .inv .3) (omega arith) (c .before .before .before .before .before .before .before .if2 .taken) in
+    let if2 = c .before .before .before .before .before .before .before .if2 in
+    let loop = c .before .before .before .before .before .before .before .before .before .before .before .loop in
+    let args = c .before .before .before .before .before .before .before .before .before .before .before .before .before .before .before .before .before .before .args in
+    let s = args .sheet .now in
+    let l = loop in
+    let f = empty-fits s (l .at) (l .top) (l .p) (l .follow) (l .firsts) (l .stops) (l .inv .3) (omega arith) (if2 .taken) in
     omega arith
 
 loop-less-2 : tie.Need-loop-less-2 Inv-loop μ-loop
@@ -88,30 +112,42 @@ loop-less-2 c = search needs
 
 loop-again-2 : tie.Need-loop-again-2 Inv-loop μ-loop
 loop-again-2 c =
-    let s = c .before .before .before .before .before .before .before .before .before .before .before .before .before .before .before .before .before .before .args .sheet .now in
-    let l = c .before .before .before .before .before .before .before .before .before .before .before .loop in
-    let x = c .before .before .before .before .put-empty in
-    (omega arith, omega arith, omega arith, empty-turn s (l .at) (l .top) (l .p) (l .follow) (l .firsts) (l .stops) (l .inv .3) (omega arith) (c .before .before .before .before .before .before .before .if2 .taken) (x .last .0) (x .last .1 .0) (x .ensures))
+    let put-empty = c .before .before .before .before .put-empty in
+    let if2 = c .before .before .before .before .before .before .before .if2 in
+    let loop = c .before .before .before .before .before .before .before .before .before .before .before .loop in
+    let args = c .before .before .before .before .before .before .before .before .before .before .before .before .before .before .before .before .before .before .args in
+    let s = args .sheet .now in
+    let l = loop in
+    let x = put-empty in
+    (omega arith, omega arith, omega arith, empty-turn s (l .at) (l .top) (l .p) (l .follow) (l .firsts) (l .stops) (l .inv .3) (omega arith) (if2 .taken) (x .last .0) (x .last .1 .0) (x .ensures))
 
 sub-top : tie.Need-sub-top Inv-loop μ-loop
 sub-top c =
-    let s = c .before .before .before .before .before .before .before .before .before .before .before .before .args .sheet .now in
-    let l = c .before .before .before .before .before .loop in
+    let loop = c .before .before .before .before .before .loop in
+    let args = c .before .before .before .before .before .before .before .before .before .before .before .before .args in
+    let s = args .sheet .now in
+    let l = loop in
     let f = cat-fits s (l .at) (l .top) (l .p) (l .follow) (l .firsts) (l .stops) (l .inv .3) (omega arith) (c .if3 .taken) in
     omega arith
 
 sub-put-cat : tie.Need-sub-put-cat Inv-loop μ-loop
 sub-put-cat c =
-    let s = c .before .before .before .before .before .before .before .before .before .before .before .before .before .before .before .args .sheet .now in
-    let l = c .before .before .before .before .before .before .before .before .loop in
-    let f = cat-fits s (l .at) (l .top) (l .p) (l .follow) (l .firsts) (l .stops) (l .inv .3) (omega arith) (c .before .before .before .if3 .taken) in
+    let if3 = c .before .before .before .if3 in
+    let loop = c .before .before .before .before .before .before .before .before .loop in
+    let args = c .before .before .before .before .before .before .before .before .before .before .before .before .before .before .before .args in
+    let s = args .sheet .now in
+    let l = loop in
+    let f = cat-fits s (l .at) (l .top) (l .p) (l .follow) (l .firsts) (l .stops) (l .inv .3) (omega arith) (if3 .taken) in
     omega arith
 
 put-cat-requires : tie.Need-put-cat-requires Inv-loop μ-loop
 put-cat-requires c κs =
-    let s = c .before .before .before .before .before .before .before .before .before .before .before .before .before .before .before .args .sheet .now in
-    let l = c .before .before .before .before .before .before .before .before .loop in
-    let f = cat-fits s (l .at) (l .top) (l .p) (l .follow) (l .firsts) (l .stops) (l .inv .3) (omega arith) (c .before .before .before .if3 .taken) in
+    let if3 = c .before .before .before .if3 in
+    let loop = c .before .before .before .before .before .before .before .before .loop in
+    let args = c .before .before .before .before .before .before .before .before .before .before .before .before .before .before .before .args in
+    let s = args .sheet .now in
+    let l = loop in
+    let f = cat-fits s (l .at) (l .top) (l .p) (l .follow) (l .firsts) (l .stops) (l .inv .3) (omega arith) (if3 .taken) in
     let z = not-deep s (l .at) (l .top) (l .p) (l .follow) (l .firsts) (l .stops) (l .inv .3) in
     omega arith
 
@@ -120,30 +156,42 @@ loop-less-3 c = search needs
 
 loop-again-3 : tie.Need-loop-again-3 Inv-loop μ-loop
 loop-again-3 c =
-    let s = c .before .before .before .before .before .before .before .before .before .before .before .before .before .before .before .before .before .before .before .before .before .before .args .sheet .now in
-    let l = c .before .before .before .before .before .before .before .before .before .before .before .before .before .before .before .loop in
-    let x = c .before .before .before .before .before .before .put-cat in
-    (omega arith, omega arith, omega arith, cat-turn s (l .at) (l .top) (l .p) (l .follow) (l .firsts) (l .stops) (l .inv .3) (omega arith) (c .before .before .before .before .before .before .before .before .before .before .if3 .taken) (x .last .0) (x .last .1 .0) (x .last .1 .1 .0) (x .ensures))
+    let put-cat = c .before .before .before .before .before .before .put-cat in
+    let if3 = c .before .before .before .before .before .before .before .before .before .before .if3 in
+    let loop = c .before .before .before .before .before .before .before .before .before .before .before .before .before .before .before .loop in
+    let args = c .before .before .before .before .before .before .before .before .before .before .before .before .before .before .before .before .before .before .before .before .before .before .args in
+    let s = args .sheet .now in
+    let l = loop in
+    let x = put-cat in
+    (omega arith, omega arith, omega arith, cat-turn s (l .at) (l .top) (l .p) (l .follow) (l .firsts) (l .stops) (l .inv .3) (omega arith) (if3 .taken) (x .last .0) (x .last .1 .0) (x .last .1 .1 .0) (x .ensures))
 
 sub-top-2 : tie.Need-sub-top-2 Inv-loop μ-loop
 sub-top-2 c =
-    let s = c .before .before .before .before .before .before .before .before .before .before .before .before .before .args .sheet .now in
-    let l = c .before .before .before .before .before .before .loop in
+    let loop = c .before .before .before .before .before .before .loop in
+    let args = c .before .before .before .before .before .before .before .before .before .before .before .before .before .args in
+    let s = args .sheet .now in
+    let l = loop in
     let f = alt-fits s (l .at) (l .top) (l .p) (l .follow) (l .firsts) (l .stops) (l .inv .3) (omega arith) (c .if4 .taken) in
     omega arith
 
 sub-put-union : tie.Need-sub-put-union Inv-loop μ-loop
 sub-put-union c =
-    let s = c .before .before .before .before .before .before .before .before .before .before .before .before .before .before .before .args .sheet .now in
-    let l = c .before .before .before .before .before .before .before .before .loop in
-    let f = alt-fits s (l .at) (l .top) (l .p) (l .follow) (l .firsts) (l .stops) (l .inv .3) (omega arith) (c .before .before .if4 .taken) in
+    let if4 = c .before .before .if4 in
+    let loop = c .before .before .before .before .before .before .before .before .loop in
+    let args = c .before .before .before .before .before .before .before .before .before .before .before .before .before .before .before .args in
+    let s = args .sheet .now in
+    let l = loop in
+    let f = alt-fits s (l .at) (l .top) (l .p) (l .follow) (l .firsts) (l .stops) (l .inv .3) (omega arith) (if4 .taken) in
     omega arith
 
 put-union-requires : tie.Need-put-union-requires Inv-loop μ-loop
 put-union-requires c κs =
-    let s = c .before .before .before .before .before .before .before .before .before .before .before .before .before .before .before .args .sheet .now in
-    let l = c .before .before .before .before .before .before .before .before .loop in
-    let f = alt-fits s (l .at) (l .top) (l .p) (l .follow) (l .firsts) (l .stops) (l .inv .3) (omega arith) (c .before .before .if4 .taken) in
+    let if4 = c .before .before .if4 in
+    let loop = c .before .before .before .before .before .before .before .before .loop in
+    let args = c .before .before .before .before .before .before .before .before .before .before .before .before .before .before .before .args in
+    let s = args .sheet .now in
+    let l = loop in
+    let f = alt-fits s (l .at) (l .top) (l .p) (l .follow) (l .firsts) (l .stops) (l .inv .3) (omega arith) (if4 .taken) in
     let z = not-deep s (l .at) (l .top) (l .p) (l .follow) (l .firsts) (l .stops) (l .inv .3) in
     omega arith
 
@@ -152,22 +200,30 @@ loop-less-4 c = search needs
 
 loop-again-4 : tie.Need-loop-again-4 Inv-loop μ-loop
 loop-again-4 c =
-    let s = c .before .before .before .before .before .before .before .before .before .before .before .before .before .before .before .before .before .before .before .before .args .sheet .now in
-    let l = c .before .before .before .before .before .before .before .before .before .before .before .before .before .loop in
-    let x = c .before .before .before .before .put-union in
-    (omega arith, omega arith, omega arith, alt-turn s (l .at) (l .top) (l .p) (l .follow) (l .firsts) (l .stops) (l .inv .3) (omega arith) (c .before .before .before .before .before .before .before .if4 .taken) (x .last .0) (x .last .1 .0) (x .ensures))
+    let put-union = c .before .before .before .before .put-union in
+    let if4 = c .before .before .before .before .before .before .before .if4 in
+    let loop = c .before .before .before .before .before .before .before .before .before .before .before .before .before .loop in
+    let args = c .before .before .before .before .before .before .before .before .before .before .before .before .before .before .before .before .before .before .before .before .args in
+    let s = args .sheet .now in
+    let l = loop in
+    let x = put-union in
+    (omega arith, omega arith, omega arith, alt-turn s (l .at) (l .top) (l .p) (l .follow) (l .firsts) (l .stops) (l .inv .3) (omega arith) (if4 .taken) (x .last .0) (x .last .1 .0) (x .ensures))
 
 sub-put-star : tie.Need-sub-put-star Inv-loop μ-loop
 sub-put-star c =
-    let s = c .before .before .before .before .before .before .before .before .before .before .before .before .before .before .before .before .args .sheet .now in
-    let l = c .before .before .before .before .before .before .before .before .before .loop in
+    let loop = c .before .before .before .before .before .before .before .before .before .loop in
+    let args = c .before .before .before .before .before .before .before .before .before .before .before .before .before .before .before .before .args in
+    let s = args .sheet .now in
+    let l = loop in
     let f = star-fits s (l .at) (l .top) (l .p) (l .follow) (l .firsts) (l .stops) (l .inv .3) (omega arith) (omega arith) in
     omega arith
 
 put-star-requires : tie.Need-put-star-requires Inv-loop μ-loop
 put-star-requires c κs =
-    let s = c .before .before .before .before .before .before .before .before .before .before .before .before .before .before .before .before .args .sheet .now in
-    let l = c .before .before .before .before .before .before .before .before .before .loop in
+    let loop = c .before .before .before .before .before .before .before .before .before .loop in
+    let args = c .before .before .before .before .before .before .before .before .before .before .before .before .before .before .before .before .args in
+    let s = args .sheet .now in
+    let l = loop in
     let f = star-fits s (l .at) (l .top) (l .p) (l .follow) (l .firsts) (l .stops) (l .inv .3) (omega arith) (omega arith) in
     let z = not-deep s (l .at) (l .top) (l .p) (l .follow) (l .firsts) (l .stops) (l .inv .3) in
     omega arith
@@ -177,9 +233,12 @@ loop-less-5 c = search needs
 
 loop-again-5 : tie.Need-loop-again-5 Inv-loop μ-loop
 loop-again-5 c =
-    let s = c .before .before .before .before .before .before .before .before .before .before .before .before .before .before .before .before .before .before .before .before .before .args .sheet .now in
-    let l = c .before .before .before .before .before .before .before .before .before .before .before .before .before .before .loop in
-    let x = c .before .before .before .before .put-star in
+    let put-star = c .before .before .before .before .put-star in
+    let loop = c .before .before .before .before .before .before .before .before .before .before .before .before .before .before .loop in
+    let args = c .before .before .before .before .before .before .before .before .before .before .before .before .before .before .before .before .before .before .before .before .before .args in
+    let s = args .sheet .now in
+    let l = loop in
+    let x = put-star in
     (omega arith, omega arith, omega arith, star-turn s (l .at) (l .top) (l .p) (l .follow) (l .firsts) (l .stops) (l .inv .3) (omega arith) (omega arith) (x .last .0) (x .last .1 .1 .0) (x .ensures))
 
 same-length : tie.Need-same-length Inv-loop μ-loop
@@ -193,7 +252,8 @@ same-length-3 c = search needs
 
 returns : tie.Need-returns Inv-loop μ-loop
 returns c =
-    let s = c .before .before .before .before .before .before .before .before .args .sheet .now in
+    let args = c .before .before .before .before .before .before .before .before .args in
+    let s = args .sheet .now in
     let l = c .before .loop in
     finish s (l .at) (l .top) (l .p) (l .follow) (l .firsts) (l .stops) (l .inv .3) (omega arith)
 

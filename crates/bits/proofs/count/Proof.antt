@@ -33,15 +33,19 @@ shared-slice-read-n c = search needs
 
 cast-n : tie.Need-cast-n Inv-loop μ-loop
 cast-n c =
-    let g = c .before .before .before .args in
-    let l = c .before .before .loop in
+    let loop = c .before .before .loop in
+    let args = c .before .before .before .args in
+    let g = args in
+    let l = loop in
     let f = c .shared-slice-known .given (setWords * g .k + l .i) .fits in
     omega (arith, ones-le wordBits _ f)
 
 add-n-2 : tie.Need-add-n-2 Inv-loop μ-loop
 add-n-2 c =
-    let g = c .before .before .before .args in
-    let l = c .before .before .loop in
+    let loop = c .before .before .loop in
+    let args = c .before .before .before .args in
+    let g = args in
+    let l = loop in
     let f = c .shared-slice-known .given (setWords * g .k + l .i) .fits in
     omega (arith, ones-le wordBits _ f)
 
@@ -53,14 +57,17 @@ loop-less c = search needs
 
 loop-again : tie.Need-loop-again Inv-loop μ-loop
 loop-again c =
-    let g = c .before .before .before .args in
-    let l = c .before .before .loop in
+    let loop = c .before .before .loop in
+    let args = c .before .before .before .args in
+    let g = args in
+    let l = loop in
     let f = c .shared-slice-known .given (setWords * g .k + l .i) .fits in
     (omega arith, omega (arith, ones-le wordBits _ f), count-turn (g .sets .now) (g .k) (l .i) (l .n) (omega arith) f (l .inv .2))
 
 returns : tie.Need-returns Inv-loop μ-loop
 returns c =
-    let g = c .before .before .args in
+    let args = c .before .before .args in
+    let g = args in
     let l = c .before .loop in
     l .inv .2 ∙ count-end (g .sets .now) (g .k) (l .i) (omega arith)
 

@@ -33,7 +33,8 @@ same-length c = search needs
 
 returns : tie.Need-returns
 returns c =
-    let g = c .before .before .args in
+    let args = c .before .before .args in
+    let g = args in
     start-dropped (g .sets .now) (g .k) (omega arith)
 
 pub drop-start-spec : {M : Type 1} → statement M

@@ -18,7 +18,8 @@ abbrev μ-loop : tie.MeasureT-loop
 
 returns : tie.Need-returns Inv-loop μ-loop
 returns c =
-    let g = c .before .before .args in
+    let args = c .before .before .args in
+    let g = args in
     let i : ℕ = g .bound / wordBits in
     least-none (g .sets .now) (g .k) (g .bound) i (omega arith) (clear-start (g .sets .now) (g .k) (g .bound))
 
@@ -51,7 +52,8 @@ add-result c = search needs
 
 returns-2 : tie.Need-returns-2 Inv-loop μ-loop
 returns-2 c =
-    let g = c .before .before .before .before .before .args in
+    let args = c .before .before .before .before .before .args in
+    let g = args in
     let i : ℕ = g .bound / wordBits in
     let r = c .lowest-bit in
     let v = lowest-at wordBits _ (r .result) (omega arith) (mod-lt _ (pow-pos wordBits)) (r .ensures .0) in
@@ -62,7 +64,8 @@ add-i c = search needs
 
 loop-holds : tie.Need-loop-holds Inv-loop μ-loop
 loop-holds c =
-    let g = c .before .before .before .before .args in
+    let args = c .before .before .before .before .args in
+    let g = args in
     let i : ℕ = g .bound / wordBits in
     (omega arith, omega arith, least-next (g .sets .now) (g .k) (g .bound) i _ (clear-start (g .sets .now) (g .k) (g .bound)) (omega arith) (mask-first (g .sets .now) (g .k) (g .bound) i (omega arith) refl) (c .if2 .left))
 
@@ -89,10 +92,13 @@ add-result-2 c = search needs
 
 returns-3 : tie.Need-returns-3 Inv-loop μ-loop
 returns-3 c =
-    let g = c .before .before .before .before .before .before .before .before .before .args in
-    let l = c .before .before .before .before .loop in
+    let shared-slice-known3 = c .before .before .shared-slice-known3 in
+    let loop = c .before .before .before .before .loop in
+    let args = c .before .before .before .before .before .before .before .before .before .args in
+    let g = args in
+    let l = loop in
     let r = c .lowest-bit2 in
-    let f = c .before .before .shared-slice-known3 .given (setWords * g .k + l .i) .fits in
+    let f = shared-slice-known3 .given (setWords * g .k + l .i) .fits in
     let v = lowest-at wordBits _ (r .result) (omega arith) f (r .ensures .0) in
     least-found (g .sets .now) (g .k) (g .bound) (l .i) _ (l .inv .2) (omega arith) (mask-later (g .sets .now) (g .k) (g .bound) (l .i) (omega arith) (l .inv .1)) (r .result) v
 
@@ -104,13 +110,16 @@ loop-less c = search needs
 
 loop-again : tie.Need-loop-again Inv-loop μ-loop
 loop-again c =
-    let g = c .before .before .before .before .before .before .before .before .args in
-    let l = c .before .before .before .loop in
+    let loop = c .before .before .before .loop in
+    let args = c .before .before .before .before .before .before .before .before .args in
+    let g = args in
+    let l = loop in
     (omega arith, omega arith, least-next (g .sets .now) (g .k) (g .bound) (l .i) _ (l .inv .2) (omega arith) (mask-later (g .sets .now) (g .k) (g .bound) (l .i) (omega arith) (l .inv .1)) (c .if3 .left))
 
 returns-4 : tie.Need-returns-4 Inv-loop μ-loop
 returns-4 c =
-    let g = c .before .before .before .before .before .before .args in
+    let args = c .before .before .before .before .before .before .args in
+    let g = args in
     let l = c .before .loop in
     least-none (g .sets .now) (g .k) (g .bound) (l .i) (omega arith) (l .inv .2)
 

@@ -18,7 +18,8 @@ abbrev μ-loop : tie.MeasureT-loop
 
 loop-holds : tie.Need-loop-holds Inv-loop μ-loop
 loop-holds c =
-    let g = c .before .before .before .args in
+    let args = c .before .before .before .args in
+    let g = args in
     (omega arith, refl, λ p x. words-start p (has (g .table .now) p x) (has (g .from .now) (g .k) p) (has (g .to .now) (g .j) x))
 
 mul-link-word : tie.Need-mul-link-word Inv-loop μ-loop
@@ -47,10 +48,14 @@ loop-less c = search needs
 
 loop-again : tie.Need-loop-again Inv-loop μ-loop
 loop-again c =
-    let g = c .before .before .before .before .before .before .before .before .before .before .args in
-    let l = c .before .before .before .before .before .before .loop in
-    let w = c .before .before .link-word in
-    let f = c .before .before .before .shared-slice-known3 .given (setWords * g .k + l .i) .fits in
+    let link-word = c .before .before .link-word in
+    let shared-slice-known3 = c .before .before .before .shared-slice-known3 in
+    let loop = c .before .before .before .before .before .before .loop in
+    let args = c .before .before .before .before .before .before .before .before .before .before .args in
+    let g = args in
+    let l = loop in
+    let w = link-word in
+    let f = shared-slice-known3 .given (setWords * g .k + l .i) .fits in
     (omega arith, omega arith, words-turn (g .table .now) (l .table) (w .last .0) (g .from .now) (g .k) (l .i) (has (g .to .now) (g .j)) (omega arith) f (l .inv .2) (w .ensures))
 
 same-length : tie.Need-same-length Inv-loop μ-loop
@@ -58,7 +63,8 @@ same-length c = search needs
 
 returns : tie.Need-returns Inv-loop μ-loop
 returns c =
-    let g = c .before .before .before .before .before .args in
+    let args = c .before .before .before .before .before .args in
+    let g = args in
     let l = c .before .loop in
     λ p x. rw (words-end (g .from .now) (g .k) (l .i) p (omega arith)) at (l .inv .2 p x)
 

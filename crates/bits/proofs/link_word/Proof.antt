@@ -34,14 +34,20 @@ sub-m : tie.Need-sub-m Inv-loop μ-loop
 sub-m c = search needs
 
 loop-less : tie.Need-loop-less Inv-loop μ-loop
-loop-less c = let m = c .before .before .before .before .before .before .loop .m in omega (arith, and-le-r m (m - 1))
+loop-less c =
+    let loop = c .before .before .before .before .before .before .loop in
+    let m = loop .m in omega (arith, and-le-r m (m - 1))
 
 loop-again : tie.Need-loop-again Inv-loop μ-loop
 loop-again c =
-    let g = c .before .before .before .before .before .before .before .before .before .args in
-    let l = c .before .before .before .before .before .before .loop in
-    let r = c .before .before .before .before .lowest-bit in
-    let n = c .before .before .join in
+    let join = c .before .before .join in
+    let lowest-bit = c .before .before .before .before .lowest-bit in
+    let loop = c .before .before .before .before .before .before .loop in
+    let args = c .before .before .before .before .before .before .before .before .before .args in
+    let g = args in
+    let l = loop in
+    let r = lowest-bit in
+    let n = join in
     let h = link-turn (l .table) (n .last .0) (g .base) (l .m) (r .result) (has (g .to .now) (g .j)) (lowest-at wordBits (l .m) (r .result) (omega arith) (l .inv .0) (r .ensures .0)) (n .ensures) in
     (omega (arith, and-le-r (l .m) (l .m - 1)), omega arith, λ p x. h p x ∙ l .inv .2 p x)
 
@@ -50,7 +56,8 @@ same-length c = search needs
 
 returns : tie.Need-returns Inv-loop μ-loop
 returns c =
-    let g = c .before .before .before .before .args in
+    let args = c .before .before .before .before .args in
+    let g = args in
     let l = c .before .loop in
     let e : l .m ≡ 0 = omega arith in
     λ p x. sym (link-end (g .base) p _ (has (g .to .now) (g .j) x)) ∙ rw e at (l .inv .2 p x)

@@ -37,8 +37,10 @@ loop-less c = search needs
 
 loop-again : tie.Need-loop-again Inv-loop μ-loop
 loop-again c =
-    let g = c .before .before .before .before .before .args in
-    let l = c .before .before .loop in
+    let loop = c .before .before .loop in
+    let args = c .before .before .before .before .before .args in
+    let g = args in
+    let l = loop in
     let w = c .get-word in
     done-front (l .inv) _ refl (omega arith) (omega arith) (row-word (g .row .now) (l .i) _ (omega arith) (w .ensures))
 
@@ -47,7 +49,8 @@ same-length c = search needs
 
 returns : tie.Need-returns Inv-loop μ-loop
 returns c =
-    let g = c .before .before .before .before .args in
+    let args = c .before .before .before .before .args in
+    let g = args in
     let l = c .before .loop in
     done-end (l .inv) (omega arith) (row-out (g .row .now)) 0
 

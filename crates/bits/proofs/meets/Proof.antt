@@ -51,15 +51,18 @@ loop-less c = search needs
 
 loop-again : tie.Need-loop-again Inv-loop μ-loop
 loop-again c =
-    let g = c .before .before .before .before .args in
-    let l = c .before .before .before .loop in
+    let loop = c .before .before .before .loop in
+    let args = c .before .before .before .before .args in
+    let g = args in
+    let l = loop in
     let f = c .before .shared-slice-known .given (setWords * g .j + l .i) .fits in
     let h = c .shared-slice-known2 .given (setWords * g .k + l .i) .fits in
     (omega arith, or-lt wordBits _ _ (l .inv .1) (and-lt wordBits _ _ f h), both-turn (g .a .now) (g .j) (g .b .now) (g .k) (l .both) (l .i) (l .inv .2))
 
 returns : tie.Need-returns Inv-loop μ-loop
 returns c =
-    let g = c .before .before .args in
+    let args = c .before .before .args in
+    let g = args in
     let l = c .before .loop in
     let e : l .i ≡ setWords = omega arith in
     both-end (g .a .now) (g .j) (g .b .now) (g .k) (l .both) (l .inv .1) (rw e at (l .inv .2))

@@ -49,8 +49,10 @@ loop-less c = search needs
 
 loop-again : tie.Need-loop-again Inv-loop μ-loop
 loop-again c =
-    let g = c .before .before .before .before .before .before .before .before .args in
-    let l = c .before .before .before .loop in
+    let loop = c .before .before .before .loop in
+    let args = c .before .before .before .before .before .before .before .before .args in
+    let g = args in
+    let l = loop in
     done-front (l .inv) _ refl (omega arith) (omega arith) (tested-word (g .from .now) (g .j) (l .i) _ (λ x. share (g .table .now) x (g .other .now) 0) (omega arith) (c .sift-word .ensures))
 
 same-length : tie.Need-same-length Inv-loop μ-loop
@@ -58,7 +60,8 @@ same-length c = search needs
 
 returns : tie.Need-returns Inv-loop μ-loop
 returns c =
-    let g = c .before .before .before .before .before .before .args in
+    let args = c .before .before .before .before .before .before .args in
+    let g = args in
     let l = c .before .loop in
     done-end (l .inv) (omega arith) (λ x h. rw (has-out (g .from .now) (g .j) x h) refl) 0
 

@@ -18,7 +18,8 @@ abbrev μ-loop : tie.MeasureT-loop
 
 loop-holds : tie.Need-loop-holds Inv-loop μ-loop
 loop-holds c =
-    let g = c .before .before .args in
+    let args = c .before .before .args in
+    let g = args in
     (omega arith, λ b. kept-start b (bit (g .from) b && share (g .table .now) (g .base + b) (g .other .now) 0))
 
 lowest-bit-requires : tie.Need-lowest-bit-requires Inv-loop μ-loop
@@ -34,12 +35,16 @@ sub-m : tie.Need-sub-m Inv-loop μ-loop
 sub-m c = search needs
 
 loop-less : tie.Need-loop-less Inv-loop μ-loop
-loop-less c = let m = c .before .before .before .loop .m in omega (arith, and-le-r m (m - 1))
+loop-less c =
+    let loop = c .before .before .before .loop in
+    let m = loop .m in omega (arith, and-le-r m (m - 1))
 
 loop-again : tie.Need-loop-again Inv-loop μ-loop
 loop-again c =
-    let g = c .before .before .before .before .before .before .args in
-    let l = c .before .before .before .loop in
+    let loop = c .before .before .before .loop in
+    let args = c .before .before .before .before .before .before .args in
+    let g = args in
+    let l = loop in
     let r = c .before .lowest-bit in
     let k = c .kept-bit in
     let meets : ℕ → Bool = λ b. share (g .table .now) (g .base + b) (g .other .now) 0 in
@@ -48,7 +53,8 @@ loop-again c =
 
 returns : tie.Need-returns Inv-loop μ-loop
 returns c =
-    let g = c .before .before .before .before .args in
+    let args = c .before .before .before .before .args in
+    let g = args in
     let l = c .before .loop in
     let e : l .m ≡ 0 = omega arith in
     λ b. sym (kept-end b _ (share (g .table .now) (g .base + b) (g .other .now) 0)) ∙ rw e at (l .inv .1 b)

@@ -27,8 +27,10 @@ same-length c = search needs
 
 returns : tie.Need-returns
 returns c =
-    let g = c .before .before .before .before .before .args in
-    let r = c .before .before .clear in
+    let clear = c .before .before .clear in
+    let args = c .before .before .before .before .before .args in
+    let g = args in
+    let r = clear in
     singled (g .sets .now) (r .last .0) (g .k) (g .q) (omega arith) (omega arith) (r .ensures)
 
 pub single-spec : {M : Type 1} → statement M

@@ -14,7 +14,8 @@ abbrev μ-loop : tie.MeasureT-loop
 
 loop-holds : tie.Need-loop-holds Inv-loop μ-loop
 loop-holds c =
-    let g = c .before .before .args in
+    let args = c .before .before .args in
+    let g = args in
     store-start (g .row .now) (g .from .now)
 
 mul-put-word : tie.Need-mul-put-word Inv-loop μ-loop
@@ -37,9 +38,12 @@ loop-less c = search needs
 
 loop-again : tie.Need-loop-again Inv-loop μ-loop
 loop-again c =
-    let g = c .before .before .before .before .before .before .before .before .before .args in
-    let l = c .before .before .before .before .before .before .loop in
-    let w = c .before .before .put-word in
+    let put-word = c .before .before .put-word in
+    let loop = c .before .before .before .before .before .before .loop in
+    let args = c .before .before .before .before .before .before .before .before .before .args in
+    let g = args in
+    let l = loop in
+    let w = put-word in
     store-turn (g .row .now) (l .row) (w .last .0) (g .from .now) (l .i) (l .inv) (omega arith) (omega arith) (w .ensures)
 
 same-length : tie.Need-same-length Inv-loop μ-loop
@@ -47,7 +51,8 @@ same-length c = search needs
 
 returns : tie.Need-returns Inv-loop μ-loop
 returns c =
-    let g = c .before .before .before .before .args in
+    let args = c .before .before .before .before .args in
+    let g = args in
     let l = c .before .loop in
     (store-end (g .row .now) (l .row) (g .from .now) (l .i) (l .inv) (omega arith), λ i h. l .inv .after i (omega arith))
 

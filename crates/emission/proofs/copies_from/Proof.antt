@@ -19,7 +19,9 @@ loop-holds : tie.Need-loop-holds Inv-loop μ-loop
 loop-holds c = let g = (c .before .args) in (copying-starts (g .n) (g .nodes .now) (g .x) (g .y), refl)
 
 copy-requires : tie.Need-copy-requires Inv-loop μ-loop
-copy-requires c κs = let l = (c .before .before .loop) in omega (arith, l .inv .0 .few, l .inv .0 .inside)
+copy-requires c κs =
+    let loop = c .before .before .loop in
+    let l = loop in omega (arith, l .inv .0 .few, l .inv .0 .inside)
 
 add-k : tie.Need-add-k Inv-loop μ-loop
 add-k c = search needs
@@ -28,13 +30,20 @@ loop-less : tie.Need-loop-less Inv-loop μ-loop
 loop-less c = search needs
 
 loop-again : tie.Need-loop-again Inv-loop μ-loop
-loop-again c = let g = (c .before .before .before .before .before .before .before .args) in let l = (c .before .before .before .before .before .loop) in (copying-on (g .n) (g .nodes .now) (g .x) (g .y) (l .k) (l .m) (l .nodes) ((c .before .before .copy) .result) ((c .before .before .copy) .last .0) ((c .before .before .before .before .loop-test) .taken) (l .inv .0) ((c .before .before .copy) .ensures), omega (arith, (c .before .before .copy) .kept, l .inv .1))
+loop-again c =
+    let copy = c .before .before .copy in
+    let loop-test = c .before .before .before .before .loop-test in
+    let loop = c .before .before .before .before .before .loop in
+    let args = c .before .before .before .before .before .before .before .args in
+    let g = args in let l = loop in (copying-on (g .n) (g .nodes .now) (g .x) (g .y) (l .k) (l .m) (l .nodes) (copy .result) (copy .last .0) (loop-test .taken) (l .inv .0) (copy .ensures), omega (arith, copy .kept, l .inv .1))
 
 same-length : tie.Need-same-length Inv-loop μ-loop
 same-length c = search needs
 
 returns : tie.Need-returns Inv-loop μ-loop
-returns c = let g = (c .before .before .before .args) in let l = (c .before .loop) in copying-done (g .n) (g .nodes .now) (g .x) (g .y) (l .k) (l .m) (l .nodes) ((c .loop-test) .left) (l .inv .0)
+returns c =
+    let args = c .before .before .before .args in
+    let g = args in let l = (c .before .loop) in copying-done (g .n) (g .nodes .now) (g .x) (g .y) (l .k) (l .m) (l .nodes) ((c .loop-test) .left) (l .inv .0)
 
 pub copies-from-spec : {M : Type 1} → statement M
 copies-from-spec =

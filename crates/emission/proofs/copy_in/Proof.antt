@@ -26,7 +26,10 @@ add-buffer : tie.Need-add-buffer Inv-loop μ-loop
 add-buffer c = search needs
 
 slice-write-buffer : tie.Need-slice-write-buffer Inv-loop μ-loop
-slice-write-buffer c = let l = (c .before .before .loop) in omega (arith, l .inv .2, (c .before .before .before .pre) .1)
+slice-write-buffer c =
+    let loop = c .before .before .loop in
+    let pre = c .before .before .before .pre in
+    let l = loop in omega (arith, l .inv .2, pre .1)
 
 add-i : tie.Need-add-i Inv-loop μ-loop
 add-i c = search needs
@@ -35,13 +38,19 @@ loop-less : tie.Need-loop-less Inv-loop μ-loop
 loop-less c = search needs
 
 loop-again : tie.Need-loop-again Inv-loop μ-loop
-loop-again c = let g = (c .before .before .before .args) in let l = (c .before .before .loop) in (copy-turn (g .buffer .now) (l .buffer) (g .bytes .now) (g .at) (l .i) (g .n) ((c .before .loop-test) .taken) ((c .before .before .before .pre) .0) (l .inv .0), search needs, simp length-set (l .inv .2))
+loop-again c =
+    let loop = c .before .before .loop in
+    let args = c .before .before .before .args in
+    let pre = c .before .before .before .pre in
+    let g = args in let l = loop in (copy-turn (g .buffer .now) (l .buffer) (g .bytes .now) (g .at) (l .i) (g .n) ((c .before .loop-test) .taken) (pre .0) (l .inv .0), search needs, simp length-set (l .inv .2))
 
 same-length : tie.Need-same-length Inv-loop μ-loop
 same-length c = search needs
 
 returns : tie.Need-returns Inv-loop μ-loop
-returns c = let g = (c .before .before .args) in let l = (c .before .loop) in copy-end (g .buffer .now) (l .buffer) (g .bytes .now) (g .at) (l .i) (g .n) ((c .loop-test) .left) (l .inv .0)
+returns c =
+    let args = c .before .before .args in
+    let g = args in let l = (c .before .loop) in copy-end (g .buffer .now) (l .buffer) (g .bytes .now) (g .at) (l .i) (g .n) ((c .loop-test) .left) (l .inv .0)
 
 pub copy-in-spec : {M : Type 1} → statement M
 copy-in-spec =

@@ -13,10 +13,16 @@ same-length : tie.Need-same-length
 same-length c = search needs
 
 returns : tie.Need-returns
-returns c = let g = (c .before .before .before .before .before .before .args) in op-yes (g .n) (g .nodes .now) ((c .before .before .emit) .last .0) (g .b) (g .again) ((c .before .before .before .before .if1) .taken) ((c .before .before .emit) .ensures)
+returns c =
+    let emit = c .before .before .emit in
+    let if1 = c .before .before .before .before .if1 in
+    let args = c .before .before .before .before .before .before .args in
+    let g = args in op-yes (g .n) (g .nodes .now) (emit .last .0) (g .b) (g .again) (if1 .taken) (emit .ensures)
 
 returns-2 : tie.Need-returns-2
-returns-2 c = let g = (c .before .before .args) in op-no (g .n) (g .nodes .now) (g .b) (g .again) ((c .if1) .left)
+returns-2 c =
+    let args = c .before .before .args in
+    let g = args in op-no (g .n) (g .nodes .now) (g .b) (g .again) ((c .if1) .left)
 
 pub emit-if-spec : {M : Type 1} → statement M
 emit-if-spec = tie.close (tie.spec emit-requires add-result same-length returns returns-2)

@@ -31,7 +31,12 @@ loop-less : tie.Need-loop-less Inv-loop μ-loop
 loop-less c = search needs
 
 loop-again : tie.Need-loop-again Inv-loop μ-loop
-loop-again c = let g = (c .before .before .before .before .before .before .before .args) in let l = (c .before .before .before .before .before .loop) in (lettering-on (g .l) (g .lits .now) (g .b) (g .y) (l .i) (l .lits) ((c .before .before .emit) .last .0) ((c .before .before .before .before .loop-test) .taken) (l .inv .0) ((c .before .before .emit) .ensures), omega (arith, (c .before .before .emit) .kept, l .inv .1))
+loop-again c =
+    let emit = c .before .before .emit in
+    let loop-test = c .before .before .before .before .loop-test in
+    let loop = c .before .before .before .before .before .loop in
+    let args = c .before .before .before .before .before .before .before .args in
+    let g = args in let l = loop in (lettering-on (g .l) (g .lits .now) (g .b) (g .y) (l .i) (l .lits) (emit .last .0) (loop-test .taken) (l .inv .0) (emit .ensures), omega (arith, emit .kept, l .inv .1))
 
 add-result : tie.Need-add-result Inv-loop μ-loop
 add-result c = search needs
@@ -40,7 +45,9 @@ same-length : tie.Need-same-length Inv-loop μ-loop
 same-length c = search needs
 
 returns : tie.Need-returns Inv-loop μ-loop
-returns c = let g = (c .before .before .before .args) in let l = (c .before .loop) in lettering-done (g .l) (g .lits .now) (g .b) (g .y) (l .i) (l .lits) ((c .loop-test) .left) (l .inv .0)
+returns c =
+    let args = c .before .before .before .args in
+    let g = args in let l = (c .before .loop) in lettering-done (g .l) (g .lits .now) (g .b) (g .y) (l .i) (l .lits) ((c .loop-test) .left) (l .inv .0)
 
 pub letters-spec : {M : Type 1} → statement M
 letters-spec =

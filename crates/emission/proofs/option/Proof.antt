@@ -13,7 +13,10 @@ same-length : tie.Need-same-length
 same-length c = search needs
 
 returns : tie.Need-returns
-returns c = let g = (c .before .before .before .before .before .before .args) in option-sure (g .n) (g .nodes .now) ((c .before .before .before .emit) .last .0) (g .sure) ((c .if1) .taken) ((c .before .before .before .emit) .ensures)
+returns c =
+    let emit = c .before .before .before .emit in
+    let args = c .before .before .before .before .before .before .args in
+    let g = args in option-sure (g .n) (g .nodes .now) (emit .last .0) (g .sure) ((c .if1) .taken) (emit .ensures)
 
 add-emit : tie.Need-add-emit
 add-emit c = search needs
@@ -34,7 +37,13 @@ same-length-2 : tie.Need-same-length-2
 same-length-2 c = search needs
 
 returns-2 : tie.Need-returns-2
-returns-2 c = let g = (c .before .before .before .before .before .before .before .before .before .before .before .before .before .before .args) in option-free (g .n) (g .nodes .now) ((c .before .before .before .before .before .before .before .before .before .before .before .emit) .last .0) ((c .before .before .before .before .before .before .emit2) .last .0) ((c .before .before .emit3) .last .0) (g .sure) ((c .before .before .before .before .before .before .before .before .if1) .left) ((c .before .before .before .before .before .before .before .before .before .before .before .emit) .ensures) ((c .before .before .before .before .before .before .emit2) .ensures) ((c .before .before .emit3) .ensures)
+returns-2 c =
+    let emit3 = c .before .before .emit3 in
+    let emit2 = c .before .before .before .before .before .before .emit2 in
+    let if1 = c .before .before .before .before .before .before .before .before .if1 in
+    let emit = c .before .before .before .before .before .before .before .before .before .before .before .emit in
+    let args = c .before .before .before .before .before .before .before .before .before .before .before .before .before .before .args in
+    let g = args in option-free (g .n) (g .nodes .now) (emit .last .0) (emit2 .last .0) (emit3 .last .0) (g .sure) (if1 .left) (emit .ensures) (emit2 .ensures) (emit3 .ensures)
 
 pub option-spec : {M : Type 1} → statement M
 option-spec =

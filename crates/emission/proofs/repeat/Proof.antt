@@ -14,7 +14,11 @@ same-length : tie.Need-same-length
 same-length c = search needs
 
 returns : tie.Need-returns
-returns c = let g = (c .before .before .before .before .before .before .args) in rw ((c .before .before .before .before .if1) .taken) (wrote-one (g .n) (g .nodes .now) ((c .before .before .emit) .last .0) 1 ((c .before .before .emit) .ensures))
+returns c =
+    let emit = c .before .before .emit in
+    let if1 = c .before .before .before .before .if1 in
+    let args = c .before .before .before .before .before .before .args in
+    let g = args in rw (if1 .taken) (wrote-one (g .n) (g .nodes .now) (emit .last .0) 1 (emit .ensures))
 
 copies-from-requires : tie.Need-copies-from-requires
 copies-from-requires c κs = search needs
@@ -23,7 +27,11 @@ same-length-2 : tie.Need-same-length-2
 same-length-2 c = search needs
 
 returns-2 : tie.Need-returns-2
-returns-2 c = let g = (c .before .before .before .before .before .before .args) in repeat-some (g .n) (g .nodes .now) ((c .before .before .copies-from) .result) ((c .before .before .copies-from) .last .0) (g .x) (g .y) ((c .before .before .before .before .if1) .left) ((c .before .before .copies-from) .ensures)
+returns-2 c =
+    let copies-from = c .before .before .copies-from in
+    let if1 = c .before .before .before .before .if1 in
+    let args = c .before .before .before .before .before .before .args in
+    let g = args in repeat-some (g .n) (g .nodes .now) (copies-from .result) (copies-from .last .0) (g .x) (g .y) (if1 .left) (copies-from .ensures)
 
 pub repeat-spec : {M : Type 1} → statement M
 repeat-spec =

@@ -29,13 +29,17 @@ loop-less : tie.Need-loop-less Inv-loop μ-loop
 loop-less c = search needs
 
 loop-again : tie.Need-loop-again Inv-loop μ-loop
-loop-again c = let g = (c .before .before .args) in let l = (c .before .loop) in (wipe-turn (l .buffer) (take (g .at) (g .buffer .now) ++ replicate (length (g .buffer .now) - g .at) 0) (l .i) (length (g .buffer .now)) ((c .loop-test) .taken) (l .inv .1) (l .inv .0), simp length-set (l .inv .1))
+loop-again c =
+    let args = c .before .before .args in
+    let g = args in let l = (c .before .loop) in (wipe-turn (l .buffer) (take (g .at) (g .buffer .now) ++ replicate (length (g .buffer .now) - g .at) 0) (l .i) (length (g .buffer .now)) ((c .loop-test) .taken) (l .inv .1) (l .inv .0), simp length-set (l .inv .1))
 
 same-length : tie.Need-same-length Inv-loop μ-loop
 same-length c = search needs
 
 returns : tie.Need-returns Inv-loop μ-loop
-returns c = let g = (c .before .before .args) in let l = (c .before .loop) in wipe-end (l .buffer) (take (g .at) (g .buffer .now) ++ replicate (length (g .buffer .now) - g .at) 0) (l .i) (length (g .buffer .now)) (omega (arith, (c .loop-test) .left, l .inv .1)) (l .inv .1) (l .inv .0)
+returns c =
+    let args = c .before .before .args in
+    let g = args in let l = (c .before .loop) in wipe-end (l .buffer) (take (g .at) (g .buffer .now) ++ replicate (length (g .buffer .now) - g .at) 0) (l .i) (length (g .buffer .now)) (omega (arith, (c .loop-test) .left, l .inv .1)) (l .inv .1) (l .inv .0)
 
 pub wipe-from-spec : {M : Type 1} → statement M
 wipe-from-spec =

@@ -10,10 +10,16 @@ is-requires-2 : tie.Need-is-requires-2
 is-requires-2 c κs = search needs
 
 returns : tie.Need-returns
-returns c = rw (sym ((c .before .before .before .is) .ensures) ∙ (c .before .before .if1) .taken, sym ((c .before .is2) .ensures) ∙ (c .if2) .taken) refl
+returns c =
+    let if1 = c .before .before .if1 in
+    let is = c .before .before .before .is in
+    rw (sym (is .ensures) ∙ if1 .taken, sym ((c .before .is2) .ensures) ∙ (c .if2) .taken) refl
 
 returns-2 : tie.Need-returns-2
-returns-2 c = rw (sym ((c .before .before .before .is) .ensures) ∙ (c .before .before .if1) .taken, sym ((c .before .is2) .ensures) ∙ (c .if2) .left) refl
+returns-2 c =
+    let if1 = c .before .before .if1 in
+    let is = c .before .before .before .is in
+    rw (sym (is .ensures) ∙ if1 .taken, sym ((c .before .is2) .ensures) ∙ (c .if2) .left) refl
 
 returns-3 : tie.Need-returns-3
 returns-3 c = rw (sym ((c .before .is) .ensures) ∙ (c .if1) .left) refl

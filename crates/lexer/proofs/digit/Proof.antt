@@ -10,16 +10,25 @@ use Rattle.lexer.proofs.digit.Statement.{statement}
 use Rattle.lexer.proofs.digit.Tie as tie
 
 shared-slice-read-wide : tie.Need-shared-slice-read-wide
-shared-slice-read-wide c = front-inside digitAt ((c .before .before .args) .text .now) ((c .before .before .args) .at) refl ((c .before .before .pre))
+shared-slice-read-wide c =
+    let args = c .before .before .args in
+    let pre = c .before .before .pre in
+    front-inside digitAt (args .text .now) (args .at) refl (pre)
 
 wide-requires : tie.Need-wide-requires
 wide-requires c κs = search needs
 
 sub-result : tie.Need-sub-result
-sub-result c = omega (arith, digit-bounds ((c .before .before .before .args) .text .now) ((c .before .before .before .args) .at) ((c .before .before .before .pre)) .0, (c .wide) .ensures .0)
+sub-result c =
+    let args = c .before .before .before .args in
+    let pre = c .before .before .before .pre in
+    omega (arith, digit-bounds (args .text .now) (args .at) (pre) .0, (c .wide) .ensures .0)
 
 returns : tie.Need-returns
-returns c = let d = digit-bounds ((c .before .before .before .args) .text .now) ((c .before .before .before .args) .at) ((c .before .before .before .pre)) in (ap (λ (n : ℕ). n - digitZero) ((c .wide) .ensures .0), omega (arith, d .1, (c .wide) .ensures .0))
+returns c =
+    let args = c .before .before .before .args in
+    let pre = c .before .before .before .pre in
+    let d = digit-bounds (args .text .now) (args .at) (pre) in (ap (λ (n : ℕ). n - digitZero) ((c .wide) .ensures .0), omega (arith, d .1, (c .wide) .ensures .0))
 
 pub digit-spec : {M : Type 1} → statement M
 digit-spec = tie.close (tie.spec shared-slice-read-wide wide-requires sub-result returns)

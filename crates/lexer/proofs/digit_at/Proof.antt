@@ -13,10 +13,15 @@ is-digit-requires : tie.Need-is-digit-requires
 is-digit-requires c κs = search needs
 
 returns : tie.Need-returns
-returns c = (c .is-digit) .ensures ∙ front-in digitAt ((c .before .before .before .before .args) .text .now) ((c .before .before .before .before .args) .at) ((c .before .before .if1) .taken)
+returns c =
+    let if1 = c .before .before .if1 in
+    let args = c .before .before .before .before .args in
+    (c .is-digit) .ensures ∙ front-in digitAt (args .text .now) (args .at) (if1 .taken)
 
 returns-2 : tie.Need-returns-2
-returns-2 c = front-out digitAt ((c .before .before .args) .text .now) ((c .before .before .args) .at) refl (omega (arith, (c .if1) .left))
+returns-2 c =
+    let args = c .before .before .args in
+    front-out digitAt (args .text .now) (args .at) refl (omega (arith, (c .if1) .left))
 
 pub digit-at-spec : {M : Type 1} → statement M
 digit-at-spec = tie.close (tie.spec shared-slice-read-is-digit is-digit-requires returns returns-2)

@@ -33,13 +33,26 @@ add-t10 : tie.Need-add-t10
 add-t10 c = search needs
 
 returns : tie.Need-returns
-returns c = (figure-two ((c .before .before .before .before .before .before .before .args) .text .now) ((c .before .before .before .before .before .before .before .args) .at) ((c .before .before .before .digit) .result) ((c .digit2) .result) (sym ((c .before .before .before .before .before .digit-at) .ensures) ∙ (c .before .before .before .before .if1) .taken) (sym ((c .before .before .digit-at2) .ensures) ∙ (c .before .if2) .taken) ((c .before .before .before .digit) .ensures .0) ((c .digit2) .ensures .0), (omega (arith, (c .before .before .before .digit) .ensures .1, (c .digit2) .ensures .1), omega arith, omega (arith, front-inside digitAt ((c .before .before .before .before .before .before .before .args) .text .now) (((c .before .before .before .before .before .before .before .args) .at) + 1) refl (sym ((c .before .before .digit-at2) .ensures) ∙ (c .before .if2) .taken))))
+returns c =
+    let digit-at2 = c .before .before .digit-at2 in
+    let digit = c .before .before .before .digit in
+    let if1 = c .before .before .before .before .if1 in
+    let digit-at = c .before .before .before .before .before .digit-at in
+    let args = c .before .before .before .before .before .before .before .args in
+    (figure-two (args .text .now) (args .at) (digit .result) ((c .digit2) .result) (sym (digit-at .ensures) ∙ if1 .taken) (sym (digit-at2 .ensures) ∙ (c .before .if2) .taken) (digit .ensures .0) ((c .digit2) .ensures .0), (omega (arith, digit .ensures .1, (c .digit2) .ensures .1), omega arith, omega (arith, front-inside digitAt (args .text .now) ((args .at) + 1) refl (sym (digit-at2 .ensures) ∙ (c .before .if2) .taken))))
 
 returns-2 : tie.Need-returns-2
-returns-2 c = (figure-one ((c .before .before .before .before .before .before .args) .text .now) ((c .before .before .before .before .before .before .args) .at) ((c .before .before .digit) .result) (sym ((c .before .before .before .before .digit-at) .ensures) ∙ (c .before .before .before .if1) .taken) (sym ((c .before .digit-at2) .ensures) ∙ (c .if2) .left) ((c .before .before .digit) .ensures .0), (omega (arith, (c .before .before .digit) .ensures .1), omega arith, omega (arith, front-inside digitAt ((c .before .before .before .before .before .before .args) .text .now) ((c .before .before .before .before .before .before .args) .at) refl (sym ((c .before .before .before .before .digit-at) .ensures) ∙ (c .before .before .before .if1) .taken))))
+returns-2 c =
+    let digit = c .before .before .digit in
+    let if1 = c .before .before .before .if1 in
+    let digit-at = c .before .before .before .before .digit-at in
+    let args = c .before .before .before .before .before .before .args in
+    (figure-one (args .text .now) (args .at) (digit .result) (sym (digit-at .ensures) ∙ if1 .taken) (sym ((c .before .digit-at2) .ensures) ∙ (c .if2) .left) (digit .ensures .0), (omega (arith, digit .ensures .1), omega arith, omega (arith, front-inside digitAt (args .text .now) (args .at) refl (sym (digit-at .ensures) ∙ if1 .taken))))
 
 returns-3 : tie.Need-returns-3
-returns-3 c = (figure-none ((c .before .before .before .args) .text .now) ((c .before .before .before .args) .at) (sym ((c .before .digit-at) .ensures) ∙ (c .if1) .left), tt)
+returns-3 c =
+    let args = c .before .before .before .args in
+    (figure-none (args .text .now) (args .at) (sym ((c .before .digit-at) .ensures) ∙ (c .if1) .left), tt)
 
 pub figure-at-spec : {M : Type 1} → statement M
 figure-at-spec =

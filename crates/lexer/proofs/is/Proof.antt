@@ -12,7 +12,9 @@ shared-slice-read-result : tie.Need-shared-slice-read-result
 shared-slice-read-result c = search needs
 
 returns : tie.Need-returns
-returns c = front-in (λ (s : List ℕ). starts s ((c .before .before .args) .b)) ((c .before .before .args) .text .now) ((c .before .before .args) .at) ((c .before .if1) .taken)
+returns c =
+    let args = c .before .before .args in
+    front-in (λ (s : List ℕ). starts s (args .b)) (args .text .now) (args .at) ((c .before .if1) .taken)
 
 returns-2 : tie.Need-returns-2
 returns-2 c = front-out (λ (s : List ℕ). starts s ((c .before .args) .b)) ((c .before .args) .text .now) ((c .before .args) .at) refl (omega (arith, (c .if1) .left))

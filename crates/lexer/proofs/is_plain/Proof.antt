@@ -13,10 +13,16 @@ returns : tie.Need-returns
 returns c = rw (sym ((c .before .is-mark) .ensures) ∙ (c .if1) .taken) refl
 
 returns-2 : tie.Need-returns-2
-returns-2 c = rw (sym ((c .before .before .is-mark) .ensures) ∙ (c .before .if1) .left, lt-ltb ((c .before .before .before .args) .b) lowestByte ((c .if2) .taken)) refl
+returns-2 c =
+    let is-mark = c .before .before .is-mark in
+    let args = c .before .before .before .args in
+    rw (sym (is-mark .ensures) ∙ (c .before .if1) .left, lt-ltb (args .b) lowestByte ((c .if2) .taken)) refl
 
 returns-3 : tie.Need-returns-3
-returns-3 c = rw (sym ((c .before .before .is-mark) .ensures) ∙ (c .before .if1) .left, le-ltb ((c .before .before .before .args) .b) lowestByte ((c .if2) .left)) (leb-not-ltb ((c .before .before .before .args) .b) highestByte)
+returns-3 c =
+    let is-mark = c .before .before .is-mark in
+    let args = c .before .before .before .args in
+    rw (sym (is-mark .ensures) ∙ (c .before .if1) .left, le-ltb (args .b) lowestByte ((c .if2) .left)) (leb-not-ltb (args .b) highestByte)
 
 pub is-plain-spec : {M : Type 1} → statement M
 is-plain-spec = tie.close (tie.spec is-mark-requires returns returns-2 returns-3)

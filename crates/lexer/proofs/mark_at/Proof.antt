@@ -13,10 +13,15 @@ is-mark-requires : tie.Need-is-mark-requires
 is-mark-requires c κs = search needs
 
 returns : tie.Need-returns
-returns c = (c .is-mark) .ensures ∙ front-in markAt ((c .before .before .before .before .args) .text .now) ((c .before .before .before .before .args) .at) ((c .before .before .if1) .taken)
+returns c =
+    let if1 = c .before .before .if1 in
+    let args = c .before .before .before .before .args in
+    (c .is-mark) .ensures ∙ front-in markAt (args .text .now) (args .at) (if1 .taken)
 
 returns-2 : tie.Need-returns-2
-returns-2 c = front-out markAt ((c .before .before .args) .text .now) ((c .before .before .args) .at) refl (omega (arith, (c .if1) .left))
+returns-2 c =
+    let args = c .before .before .args in
+    front-out markAt (args .text .now) (args .at) refl (omega (arith, (c .if1) .left))
 
 pub mark-at-spec : {M : Type 1} → statement M
 mark-at-spec = tie.close (tie.spec shared-slice-read-is-mark is-mark-requires returns returns-2)

@@ -21,13 +21,22 @@ is-requires : tie.Need-is-requires
 is-requires c κs = search needs
 
 returns : tie.Need-returns
-returns c = ap not ((c .is) .ensures) ∙ plain-in ((c .before .before .before .before .before .before .args) .text .now) ((c .before .before .before .before .before .before .args) .at) ((c .before .before .before .before .if1) .taken) (sym ((c .before .before .is-plain) .ensures) ∙ (c .before .if2) .taken)
+returns c =
+    let is-plain = c .before .before .is-plain in
+    let if1 = c .before .before .before .before .if1 in
+    let args = c .before .before .before .before .before .before .args in
+    ap not ((c .is) .ensures) ∙ plain-in (args .text .now) (args .at) (if1 .taken) (sym (is-plain .ensures) ∙ (c .before .if2) .taken)
 
 returns-2 : tie.Need-returns-2
-returns-2 c = plain-not ((c .before .before .before .before .before .args) .text .now) ((c .before .before .before .before .before .args) .at) ((c .before .before .before .if1) .taken) (sym ((c .before .is-plain) .ensures) ∙ (c .if2) .left)
+returns-2 c =
+    let if1 = c .before .before .before .if1 in
+    let args = c .before .before .before .before .before .args in
+    plain-not (args .text .now) (args .at) (if1 .taken) (sym ((c .before .is-plain) .ensures) ∙ (c .if2) .left)
 
 returns-3 : tie.Need-returns-3
-returns-3 c = front-out plainAt ((c .before .before .args) .text .now) ((c .before .before .args) .at) refl (omega (arith, (c .if1) .left))
+returns-3 c =
+    let args = c .before .before .args in
+    front-out plainAt (args .text .now) (args .at) refl (omega (arith, (c .if1) .left))
 
 pub plain-at-spec : {M : Type 1} → statement M
 plain-at-spec =

@@ -13,10 +13,15 @@ starts-unit-requires : tie.Need-starts-unit-requires
 starts-unit-requires c κs = search needs
 
 returns : tie.Need-returns
-returns c = (c .starts-unit) .ensures ∙ front-in unitAt ((c .before .before .before .before .args) .text .now) ((c .before .before .before .before .args) .at) ((c .before .before .if1) .taken)
+returns c =
+    let if1 = c .before .before .if1 in
+    let args = c .before .before .before .before .args in
+    (c .starts-unit) .ensures ∙ front-in unitAt (args .text .now) (args .at) (if1 .taken)
 
 returns-2 : tie.Need-returns-2
-returns-2 c = front-out unitAt ((c .before .before .args) .text .now) ((c .before .before .args) .at) refl (omega (arith, (c .if1) .left))
+returns-2 c =
+    let args = c .before .before .args in
+    front-out unitAt (args .text .now) (args .at) refl (omega (arith, (c .if1) .left))
 
 pub unit-at-spec : {M : Type 1} → statement M
 unit-at-spec =

@@ -14,7 +14,13 @@ same-length : tie.Need-same-length
 same-length c = search needs
 
 returns : tie.Need-returns
-returns c = λ xs bs v. call-leaves ((c .before .before .before .before .before .before .before .before .before .before .args) .text .now) ((c .before .before .before .before .before .before .before .before .before .before .args) .sheet .now) xs ((c .before .before .before .before .before .before .before .before .before .before .args) .nodes .now) bs ((c .before .before .before .before .before .before .before .before .before .before .args) .lits .now) ((c .before .before .before .before .before .before .before .before .before .before .args) .m) ((c .before .before .before .before .before .before .before .before .before .before .args) .l) ((c .before .before .before .before .before .before .before .before .before .before .pre) .0) v ((c .before .before .refuse) .result) ((c .before .before .refuse) .last .0) ((c .before .before .before .before .passing-place) .result) ((c .before .before .before .before .before .if1) .taken) ((c .before .before .before .before .passing-place) .ensures) ((c .before .before .refuse) .ensures .0) ((c .before .before .refuse) .ensures .1)
+returns c =
+    let refuse = c .before .before .refuse in
+    let passing-place = c .before .before .before .before .passing-place in
+    let if1 = c .before .before .before .before .before .if1 in
+    let args = c .before .before .before .before .before .before .before .before .before .before .args in
+    let pre = c .before .before .before .before .before .before .before .before .before .before .pre in
+    λ xs bs v. call-leaves (args .text .now) (args .sheet .now) xs (args .nodes .now) bs (args .lits .now) (args .m) (args .l) (pre .0) v (refuse .result) (refuse .last .0) (passing-place .result) (if1 .taken) (passing-place .ensures) (refuse .ensures .0) (refuse .ensures .1)
 
 refuse-requires-2 : tie.Need-refuse-requires-2
 refuse-requires-2 c κs = search needs
@@ -23,7 +29,13 @@ same-length-2 : tie.Need-same-length-2
 same-length-2 c = search needs
 
 returns-2 : tie.Need-returns-2
-returns-2 c = λ xs bs v. call-nodes ((c .before .before .before .before .before .before .before .before .before .before .args) .text .now) ((c .before .before .before .before .before .before .before .before .before .before .args) .sheet .now) xs ((c .before .before .before .before .before .before .before .before .before .before .args) .nodes .now) bs ((c .before .before .before .before .before .before .before .before .before .before .args) .lits .now) ((c .before .before .before .before .before .before .before .before .before .before .args) .m) ((c .before .before .before .before .before .before .before .before .before .before .args) .l) ((c .before .before .before .before .before .before .before .before .before .before .pre) .0) v ((c .before .before .before .before .before .if1) .left) ((c .before .before .refuse2) .result) ((c .before .before .refuse2) .last .0) ((c .before .before .before .before .if2) .taken) ((c .before .before .refuse2) .ensures .0) ((c .before .before .refuse2) .ensures .1)
+returns-2 c =
+    let refuse2 = c .before .before .refuse2 in
+    let if2 = c .before .before .before .before .if2 in
+    let if1 = c .before .before .before .before .before .if1 in
+    let args = c .before .before .before .before .before .before .before .before .before .before .args in
+    let pre = c .before .before .before .before .before .before .before .before .before .before .pre in
+    λ xs bs v. call-nodes (args .text .now) (args .sheet .now) xs (args .nodes .now) bs (args .lits .now) (args .m) (args .l) (pre .0) v (if1 .left) (refuse2 .result) (refuse2 .last .0) (if2 .taken) (refuse2 .ensures .0) (refuse2 .ensures .1)
 
 add-needed : tie.Need-add-needed
 add-needed c = search needs
@@ -38,16 +50,34 @@ same-length-3 : tie.Need-same-length-3
 same-length-3 c = search needs
 
 returns-3 : tie.Need-returns-3
-returns-3 c = λ xs bs v. call-short ((c .before .before .before .before .before .before .before .before .before .before .before .args) .text .now) ((c .before .before .before .before .before .before .before .before .before .before .before .args) .sheet .now) xs ((c .before .before .before .before .before .before .before .before .before .before .before .args) .nodes .now) bs ((c .before .before .before .before .before .before .before .before .before .before .before .args) .lits .now) ((c .before .before .before .before .before .before .before .before .before .before .before .args) .m) ((c .before .before .before .before .before .before .before .before .before .before .before .args) .l) ((c .before .before .before .before .before .before .before .before .before .before .before .pre) .0) v ((c .before .before .before .before .before .before .if1) .left) ((c .before .before .before .before .before .if2) .left) ((c .before .before .refuse3) .result) ((c .before .before .refuse3) .last .0) ((c .before .before .before .before .if3) .taken) ((c .before .before .refuse3) .ensures .0) ((c .before .before .refuse3) .ensures .1)
+returns-3 c =
+    let refuse3 = c .before .before .refuse3 in
+    let if3 = c .before .before .before .before .if3 in
+    let if2 = c .before .before .before .before .before .if2 in
+    let if1 = c .before .before .before .before .before .before .if1 in
+    let args = c .before .before .before .before .before .before .before .before .before .before .before .args in
+    let pre = c .before .before .before .before .before .before .before .before .before .before .before .pre in
+    λ xs bs v. call-short (args .text .now) (args .sheet .now) xs (args .nodes .now) bs (args .lits .now) (args .m) (args .l) (pre .0) v (if1 .left) (if2 .left) (refuse3 .result) (refuse3 .last .0) (if3 .taken) (refuse3 .ensures .0) (refuse3 .ensures .1)
 
 lay-requires : tie.Need-lay-requires
-lay-requires c κs = (omega (arith, (c .before .before .before .before .before .before .before .before .pre) .1, (c .before .before .before .if1) .left), (c .before .before .before .if1) .left, omega (arith, (c .before .before .before .before .before .before .before .before .pre) .2, (c .before .before .if2) .left), (c .before .before .if2) .left, (c .before .if3) .left)
+lay-requires c κs =
+    let if2 = c .before .before .if2 in
+    let if1 = c .before .before .before .if1 in
+    let pre = c .before .before .before .before .before .before .before .before .pre in
+    (omega (arith, pre .1, if1 .left), if1 .left, omega (arith, pre .2, if2 .left), if2 .left, (c .before .if3) .left)
 
 same-length-4 : tie.Need-same-length-4
 same-length-4 c = search needs
 
 returns-4 : tie.Need-returns-4
-returns-4 c = λ xs bs v. call-made ((c .before .before .before .before .before .before .before .before .before .before .before .args) .text .now) ((c .before .before .before .before .before .before .before .before .before .before .before .args) .sheet .now) xs ((c .before .before .before .before .before .before .before .before .before .before .before .args) .nodes .now) bs ((c .before .before .before .before .before .before .before .before .before .before .before .args) .lits .now) ((c .before .before .before .before .before .before .before .before .before .before .before .args) .m) ((c .before .before .before .before .before .before .before .before .before .before .before .args) .l) ((c .before .before .before .before .before .before .before .before .before .before .before .pre) .0) v ((c .before .before .before .before .before .before .if1) .left) ((c .before .before .before .before .before .if2) .left) ((c .before .before .lay) .last .0) ((c .before .before .before .before .before .before .before .before .before .before .before .pre) .1) ((c .before .before .before .before .before .before .before .before .before .before .before .pre) .2) ((c .before .before .before .before .if3) .left) ((c .before .before .lay) .ensures)
+returns-4 c =
+    let lay = c .before .before .lay in
+    let if3 = c .before .before .before .before .if3 in
+    let if2 = c .before .before .before .before .before .if2 in
+    let if1 = c .before .before .before .before .before .before .if1 in
+    let args = c .before .before .before .before .before .before .before .before .before .before .before .args in
+    let pre = c .before .before .before .before .before .before .before .before .before .before .before .pre in
+    λ xs bs v. call-made (args .text .now) (args .sheet .now) xs (args .nodes .now) bs (args .lits .now) (args .m) (args .l) (pre .0) v (if1 .left) (if2 .left) (lay .last .0) (pre .1) (pre .2) (if3 .left) (lay .ensures)
 
 pub answer-spec : {M : Type 1} → statement M
 answer-spec =

@@ -30,16 +30,30 @@ enum-told : tie.Need-enum-told Inv-loop μ-loop
 enum-told c = search needs
 
 returns : tie.Need-returns Inv-loop μ-loop
-returns c = walk-wrong ((c .before .before .before .before .before .before .args) .text .now) ((c .before .before .before .before .loop) .i) ((c .before .before .step-over) .result) ((c .enum-told) .given .0 .0) ((c .enum-told) .given .1) ((c .before .before .step-over) .ensures) ((c .before .before .before .before .loop) .inv .0)
+returns c =
+    let step-over = c .before .before .step-over in
+    let loop = c .before .before .before .before .loop in
+    let args = c .before .before .before .before .before .before .args in
+    walk-wrong (args .text .now) (loop .i) (step-over .result) ((c .enum-told) .given .0 .0) ((c .enum-told) .given .1) (step-over .ensures) (loop .inv .0)
 
 loop-less : tie.Need-loop-less Inv-loop μ-loop
-loop-less c = let v = step-on ((c .before .before .before .before .before .before .before .args) .text .now) ((c .before .before .before .before .before .loop) .i) ((c .before .before .before .step-over) .result) ((c .before .before .before .step-over) .ensures) ((c .before .s) .given .0 .0) ((c .before .s) .given .0 .1 .0) ((c .before .s) .given .1) in omega (arith, v .further, v .inside)
+loop-less c =
+    let step-over = c .before .before .before .step-over in
+    let loop = c .before .before .before .before .before .loop in
+    let args = c .before .before .before .before .before .before .before .args in
+    let v = step-on (args .text .now) (loop .i) (step-over .result) (step-over .ensures) ((c .before .s) .given .0 .0) ((c .before .s) .given .0 .1 .0) ((c .before .s) .given .1) in omega (arith, v .further, v .inside)
 
 loop-again : tie.Need-loop-again Inv-loop μ-loop
-loop-again c = let v = step-on ((c .before .before .before .before .before .before .before .args) .text .now) ((c .before .before .before .before .before .loop) .i) ((c .before .before .before .step-over) .result) ((c .before .before .before .step-over) .ensures) ((c .before .s) .given .0 .0) ((c .before .s) .given .0 .1 .0) ((c .before .s) .given .1) in (walk-on ((c .before .before .before .before .before .before .before .args) .text .now) ((c .before .before .before .before .before .loop) .i) ((c .before .s) .given .0 .0) ((c .before .s) .given .0 .1 .0) v ((c .before .before .before .before .before .loop) .inv .0), v .inside)
+loop-again c =
+    let step-over = c .before .before .before .step-over in
+    let loop = c .before .before .before .before .before .loop in
+    let args = c .before .before .before .before .before .before .before .args in
+    let v = step-on (args .text .now) (loop .i) (step-over .result) (step-over .ensures) ((c .before .s) .given .0 .0) ((c .before .s) .given .0 .1 .0) ((c .before .s) .given .1) in (walk-on (args .text .now) (loop .i) ((c .before .s) .given .0 .0) ((c .before .s) .given .0 .1 .0) v (loop .inv .0), v .inside)
 
 returns-2 : tie.Need-returns-2 Inv-loop μ-loop
-returns-2 c = walk-end ((c .before .before .before .args) .text .now) ((c .before .loop) .i) (omega (arith, (c .loop-test) .left)) ((c .before .loop) .inv .0)
+returns-2 c =
+    let args = c .before .before .before .args in
+    walk-end (args .text .now) ((c .before .loop) .i) (omega (arith, (c .loop-test) .left)) ((c .before .loop) .inv .0)
 
 pub first-walk-spec : {M : Type 1} → statement M
 first-walk-spec =

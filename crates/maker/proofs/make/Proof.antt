@@ -14,7 +14,11 @@ same-length : tie.Need-same-length
 same-length c = search needs
 
 returns : tie.Need-returns
-returns c = call-refused ((c .before .before .before .before .before .before .before .args) .text .now) ((c .before .before .before .before .before .before .before .args) .sheet .now) ((c .before .before .refuse) .result) ((c .before .before .refuse) .last .0) (record { number = longText; place = textLimit }) (refusal-long ((c .before .before .before .before .before .before .before .args) .text .now) ((c .before .before .before .before .if1) .taken)) ((c .before .before .refuse) .ensures .0) ((c .before .before .refuse) .ensures .1)
+returns c =
+    let refuse = c .before .before .refuse in
+    let if1 = c .before .before .before .before .if1 in
+    let args = c .before .before .before .before .before .before .before .args in
+    call-refused (args .text .now) (args .sheet .now) (refuse .result) (refuse .last .0) (record { number = longText; place = textLimit }) (refusal-long (args .text .now) (if1 .taken)) (refuse .ensures .0) (refuse .ensures .1)
 
 slice-aggregate-read-text : tie.Need-slice-aggregate-read-text
 slice-aggregate-read-text c = search needs
@@ -35,7 +39,12 @@ same-length-2 : tie.Need-same-length-2
 same-length-2 c = search needs
 
 returns-2 : tie.Need-returns-2
-returns-2 c = (c .before .before .refuse-first) .ensures (text-refused ((c .before .before .before .before .before .before .before .before .before .before .before .before .before .before .before .args) .text .now) (replicate nodeLimit 0) ((c .before .before .before .before .before .before .before .before .before .read-text) .last .1 .0) (replicate leafLimit 0) ((c .before .before .before .before .before .before .before .before .before .read-text) .last .1 .1 .0) ((c .before .before .before .before .before .before .before .before .before .read-text) .result) ((c .before .before .before .before .before .before .before .before .before .read-text) .ensures) ((c .before .before .before .before .before .r) .given .0 .0) ((c .before .before .before .before .before .r) .given .1))
+returns-2 c =
+    let refuse-first = c .before .before .refuse-first in
+    let r = c .before .before .before .before .before .r in
+    let read-text = c .before .before .before .before .before .before .before .before .before .read-text in
+    let args = c .before .before .before .before .before .before .before .before .before .before .before .before .before .before .before .args in
+    refuse-first .ensures (text-refused (args .text .now) (replicate nodeLimit 0) (read-text .last .1 .0) (replicate leafLimit 0) (read-text .last .1 .1 .0) (read-text .result) (read-text .ensures) (r .given .0 .0) (r .given .1))
 
 enum-known-r-2 : tie.Need-enum-known-r-2
 enum-known-r-2 c = search needs
@@ -47,13 +56,23 @@ slice-aggregate-answer-2 : tie.Need-slice-aggregate-answer-2
 slice-aggregate-answer-2 c = search needs
 
 answer-requires : tie.Need-answer-requires
-answer-requires c κs = let v = text-read ((c .before .before .before .before .before .before .before .before .before .before .before .before .before .before .args) .text .now) (replicate nodeLimit 0) ((c .before .before .before .before .before .before .before .before .read-text) .last .1 .0) (replicate leafLimit 0) ((c .before .before .before .before .before .before .before .before .read-text) .last .1 .1 .0) ((c .before .before .before .before .before .before .before .before .read-text) .result) ((c .before .before .before .before .before .before .before .before .read-text) .ensures) ((c .before .before .before .before .r2) .given .0 .0) ((c .before .before .before .before .r2) .given .0 .1 .0) ((c .before .before .before .before .r2) .given .0 .1 .1 .0) ((c .before .before .before .before .r2) .given .1) in ((c .before .before .before .before .before .before .before .before .before .before .before .if1) .left, search needs, search needs, v .3, v .2)
+answer-requires c κs =
+    let r2 = c .before .before .before .before .r2 in
+    let read-text = c .before .before .before .before .before .before .before .before .read-text in
+    let if1 = c .before .before .before .before .before .before .before .before .before .before .before .if1 in
+    let args = c .before .before .before .before .before .before .before .before .before .before .before .before .before .before .args in
+    let v = text-read (args .text .now) (replicate nodeLimit 0) (read-text .last .1 .0) (replicate leafLimit 0) (read-text .last .1 .1 .0) (read-text .result) (read-text .ensures) (r2 .given .0 .0) (r2 .given .0 .1 .0) (r2 .given .0 .1 .1 .0) (r2 .given .1) in (if1 .left, search needs, search needs, v .3, v .2)
 
 same-length-3 : tie.Need-same-length-3
 same-length-3 c = search needs
 
 returns-3 : tie.Need-returns-3
-returns-3 c = (c .before .before .answer) .ensures (replicate nodeLimit 0) (replicate leafLimit 0) (text-read ((c .before .before .before .before .before .before .before .before .before .before .before .before .before .before .before .before .before .args) .text .now) (replicate nodeLimit 0) ((c .before .before .before .before .before .before .before .before .before .before .before .read-text) .last .1 .0) (replicate leafLimit 0) ((c .before .before .before .before .before .before .before .before .before .before .before .read-text) .last .1 .1 .0) ((c .before .before .before .before .before .before .before .before .before .before .before .read-text) .result) ((c .before .before .before .before .before .before .before .before .before .before .before .read-text) .ensures) ((c .before .before .before .before .before .before .before .r2) .given .0 .0) ((c .before .before .before .before .before .before .before .r2) .given .0 .1 .0) ((c .before .before .before .before .before .before .before .r2) .given .0 .1 .1 .0) ((c .before .before .before .before .before .before .before .r2) .given .1) .0)
+returns-3 c =
+    let answer = c .before .before .answer in
+    let r2 = c .before .before .before .before .before .before .before .r2 in
+    let read-text = c .before .before .before .before .before .before .before .before .before .before .before .read-text in
+    let args = c .before .before .before .before .before .before .before .before .before .before .before .before .before .before .before .before .before .args in
+    answer .ensures (replicate nodeLimit 0) (replicate leafLimit 0) (text-read (args .text .now) (replicate nodeLimit 0) (read-text .last .1 .0) (replicate leafLimit 0) (read-text .last .1 .1 .0) (read-text .result) (read-text .ensures) (r2 .given .0 .0) (r2 .given .0 .1 .0) (r2 .given .0 .1 .1 .0) (r2 .given .1) .0)
 
 pub make-spec : {M : Type 1} → statement M
 make-spec =

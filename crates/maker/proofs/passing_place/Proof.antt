@@ -31,25 +31,55 @@ enum-told : tie.Need-enum-told Inv-loop μ-loop
 enum-told c = search needs
 
 returns : tie.Need-returns Inv-loop μ-loop
-returns c = passes-none ((c .before .before .before .before .before .before .args) .text .now) ((c .before .before .before .before .loop) .i) ((c .before .before .before .before .loop) .n) ((c .before .before .before .before .loop) .inv .0) (passing-over ((c .before .before .before .before .loop) .n) ((c .before .before .before .before .before .before .args) .text .now) ((c .before .before .before .before .loop) .i) ((c .enum-told) .given .0 .0) ((c .before .before .before .before .loop) .inv .2) (step-wrong ((c .before .before .before .before .before .before .args) .text .now) ((c .before .before .before .before .loop) .i) ((c .before .before .step-over) .result) ((c .before .before .step-over) .ensures) ((c .enum-told) .given .0 .0) ((c .enum-told) .given .1)))
+returns c =
+    let step-over = c .before .before .step-over in
+    let loop = c .before .before .before .before .loop in
+    let args = c .before .before .before .before .before .before .args in
+    passes-none (args .text .now) (loop .i) (loop .n) (loop .inv .0) (passing-over (loop .n) (args .text .now) (loop .i) ((c .enum-told) .given .0 .0) (loop .inv .2) (step-wrong (args .text .now) (loop .i) (step-over .result) (step-over .ensures) ((c .enum-told) .given .0 .0) ((c .enum-told) .given .1)))
 
 add-if1 : tie.Need-add-if1 Inv-loop μ-loop
-add-if1 c = let v = step-on ((c .before .before .before .before .before .before .before .args) .text .now) ((c .before .before .before .before .before .loop) .i) ((c .before .before .before .step-over) .result) ((c .before .before .before .step-over) .ensures) ((c .before .s) .given .0 .0) ((c .before .s) .given .0 .1 .0) ((c .before .s) .given .1) in omega (arith, v .few, (c .before .before .before .before .before .loop) .inv .2)
+add-if1 c =
+    let step-over = c .before .before .before .step-over in
+    let loop = c .before .before .before .before .before .loop in
+    let args = c .before .before .before .before .before .before .before .args in
+    let v = step-on (args .text .now) (loop .i) (step-over .result) (step-over .ensures) ((c .before .s) .given .0 .0) ((c .before .s) .given .0 .1 .0) ((c .before .s) .given .1) in omega (arith, v .few, loop .inv .2)
 
 returns-2 : tie.Need-returns-2 Inv-loop μ-loop
-returns-2 c = passes-here ((c .before .before .before .before .before .before .before .before .args) .text .now) ((c .before .before .before .before .before .before .loop) .i) ((c .before .before .before .before .before .before .loop) .n) ((c .before .before .before .before .before .before .loop) .inv .0) ((c .before .before .s) .given .0 .0) ((c .before .before .s) .given .0 .1 .0) (step-on ((c .before .before .before .before .before .before .before .before .args) .text .now) ((c .before .before .before .before .before .before .loop) .i) ((c .before .before .before .before .step-over) .result) ((c .before .before .before .before .step-over) .ensures) ((c .before .before .s) .given .0 .0) ((c .before .before .s) .given .0 .1 .0) ((c .before .before .s) .given .1)) ((c .if1) .taken)
+returns-2 c =
+    let s = c .before .before .s in
+    let step-over = c .before .before .before .before .step-over in
+    let loop = c .before .before .before .before .before .before .loop in
+    let args = c .before .before .before .before .before .before .before .before .args in
+    passes-here (args .text .now) (loop .i) (loop .n) (loop .inv .0) (s .given .0 .0) (s .given .0 .1 .0) (step-on (args .text .now) (loop .i) (step-over .result) (step-over .ensures) (s .given .0 .0) (s .given .0 .1 .0) (s .given .1)) ((c .if1) .taken)
 
 add-n : tie.Need-add-n Inv-loop μ-loop
-add-n c = let v = step-on ((c .before .before .before .before .before .before .before .before .args) .text .now) ((c .before .before .before .before .before .before .loop) .i) ((c .before .before .before .before .step-over) .result) ((c .before .before .before .before .step-over) .ensures) ((c .before .before .s) .given .0 .0) ((c .before .before .s) .given .0 .1 .0) ((c .before .before .s) .given .1) in omega (arith, v .few, (c .before .before .before .before .before .before .loop) .inv .2)
+add-n c =
+    let s = c .before .before .s in
+    let step-over = c .before .before .before .before .step-over in
+    let loop = c .before .before .before .before .before .before .loop in
+    let args = c .before .before .before .before .before .before .before .before .args in
+    let v = step-on (args .text .now) (loop .i) (step-over .result) (step-over .ensures) (s .given .0 .0) (s .given .0 .1 .0) (s .given .1) in omega (arith, v .few, loop .inv .2)
 
 loop-less : tie.Need-loop-less Inv-loop μ-loop
-loop-less c = let v = step-on ((c .before .before .before .before .before .before .before .before .args) .text .now) ((c .before .before .before .before .before .before .loop) .i) ((c .before .before .before .before .step-over) .result) ((c .before .before .before .before .step-over) .ensures) ((c .before .before .s) .given .0 .0) ((c .before .before .s) .given .0 .1 .0) ((c .before .before .s) .given .1) in omega (arith, v .further, v .inside)
+loop-less c =
+    let s = c .before .before .s in
+    let step-over = c .before .before .before .before .step-over in
+    let loop = c .before .before .before .before .before .before .loop in
+    let args = c .before .before .before .before .before .before .before .before .args in
+    let v = step-on (args .text .now) (loop .i) (step-over .result) (step-over .ensures) (s .given .0 .0) (s .given .0 .1 .0) (s .given .1) in omega (arith, v .further, v .inside)
 
 loop-again : tie.Need-loop-again Inv-loop μ-loop
-loop-again c = let v = step-on ((c .before .before .before .before .before .before .before .before .args) .text .now) ((c .before .before .before .before .before .before .loop) .i) ((c .before .before .before .before .step-over) .result) ((c .before .before .before .before .step-over) .ensures) ((c .before .before .s) .given .0 .0) ((c .before .before .s) .given .0 .1 .0) ((c .before .before .s) .given .1) in (passes-later ((c .before .before .before .before .before .before .before .before .args) .text .now) ((c .before .before .before .before .before .before .loop) .i) ((c .before .before .before .before .before .before .loop) .n) ((c .before .before .before .before .before .before .loop) .inv .0) ((c .before .before .s) .given .0 .0) ((c .before .before .s) .given .0 .1 .0) v ((c .if1) .left), v .inside, (c .if1) .left)
+loop-again c =
+    let s = c .before .before .s in
+    let step-over = c .before .before .before .before .step-over in
+    let loop = c .before .before .before .before .before .before .loop in
+    let args = c .before .before .before .before .before .before .before .before .args in
+    let v = step-on (args .text .now) (loop .i) (step-over .result) (step-over .ensures) (s .given .0 .0) (s .given .0 .1 .0) (s .given .1) in (passes-later (args .text .now) (loop .i) (loop .n) (loop .inv .0) (s .given .0 .0) (s .given .0 .1 .0) v ((c .if1) .left), v .inside, (c .if1) .left)
 
 returns-3 : tie.Need-returns-3 Inv-loop μ-loop
-returns-3 c = passes-end ((c .before .before .before .args) .text .now) ((c .before .loop) .i) ((c .before .loop) .n) ((c .before .loop) .inv .0) (omega (arith, (c .loop-test) .left))
+returns-3 c =
+    let args = c .before .before .before .args in
+    passes-end (args .text .now) ((c .before .loop) .i) ((c .before .loop) .n) ((c .before .loop) .inv .0) (omega (arith, (c .loop-test) .left))
 
 pub passing-place-spec : {M : Type 1} → statement M
 passing-place-spec =

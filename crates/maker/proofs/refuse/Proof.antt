@@ -11,7 +11,10 @@ same-length : tie.Need-same-length
 same-length c = search needs
 
 returns : tie.Need-returns
-returns c = (refl, (c .before .before .wipe-from) .ensures ∙ wiped-whole ((c .before .before .before .before .before .args) .sheet .now))
+returns c =
+    let wipe-from = c .before .before .wipe-from in
+    let args = c .before .before .before .before .before .args in
+    (refl, wipe-from .ensures ∙ wiped-whole (args .sheet .now))
 
 pub refuse-spec : {M : Type 1} → statement M
 refuse-spec = tie.close (tie.spec wipe-from-requires same-length returns)

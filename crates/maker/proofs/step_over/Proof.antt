@@ -12,31 +12,46 @@ add-t10 : tie.Need-add-t10
 add-t10 c = search needs
 
 returns : tie.Need-returns
-returns c = step-open ((c .before .before .before .args) .text .now) ((c .before .before .before .args) .at) (sym ((c .before .is) .ensures) ∙ (c .if1) .taken)
+returns c =
+    let args = c .before .before .before .args in
+    step-open (args .text .now) (args .at) (sym ((c .before .is) .ensures) ∙ (c .if1) .taken)
 
 unit-at-requires : tie.Need-unit-at-requires
 unit-at-requires c κs = search needs
 
 literal-at-requires : tie.Need-literal-at-requires
-literal-at-requires c κs = ((c .before .before .before .before .before .pre) .1, (sym ((c .before .unit-at) .ensures) ∙ (c .if2) .taken), (sym ((c .before .before .before .is) .ensures) ∙ (c .before .before .if1) .left))
+literal-at-requires c κs =
+    let if1 = c .before .before .if1 in
+    let is = c .before .before .before .is in
+    let pre = c .before .before .before .before .before .pre in
+    (pre .1, (sym ((c .before .unit-at) .ensures) ∙ (c .if2) .taken), (sym (is .ensures) ∙ if1 .left))
 
 enum-known-q : tie.Need-enum-known-q
 enum-known-q c = search needs
 
 returns-2 : tie.Need-returns-2
-returns-2 c = literal-fault ((c .before .before .before .before .before .before .before .before .before .args) .text .now) ((c .before .before .before .before .before .before .before .before .before .args) .at) ((c .before .before .before .literal-at) .result) ((c .before .before .before .literal-at) .ensures) ((c .before .q) .given .0 .0) ((c .before .q) .given .1)
+returns-2 c =
+    let literal-at = c .before .before .before .literal-at in
+    let args = c .before .before .before .before .before .before .before .before .before .args in
+    literal-fault (args .text .now) (args .at) (literal-at .result) (literal-at .ensures) ((c .before .q) .given .0 .0) ((c .before .q) .given .1)
 
 enum-known-q-2 : tie.Need-enum-known-q-2
 enum-known-q-2 c = search needs
 
 returns-3 : tie.Need-returns-3
-returns-3 c = step-literal ((c .before .before .before .before .before .before .before .before .before .args) .text .now) ((c .before .before .before .before .before .before .before .before .before .args) .at) ((c .before .q2) .given .0 .0) ((c .before .q2) .given .0 .1 .0) ((c .before .q2) .given .0 .1 .1 .0) ((c .before .q2) .given .0 .1 .1 .1 .0) (literal-taken ((c .before .before .before .before .before .before .before .before .before .args) .text .now) ((c .before .before .before .before .before .before .before .before .before .args) .at) ((c .before .before .before .literal-at) .result) ((c .before .before .before .literal-at) .ensures) ((c .before .q2) .given .0 .0) ((c .before .q2) .given .0 .1 .0) ((c .before .q2) .given .0 .1 .1 .0) ((c .before .q2) .given .0 .1 .1 .1 .0) ((c .before .q2) .given .1))
+returns-3 c =
+    let literal-at = c .before .before .before .literal-at in
+    let args = c .before .before .before .before .before .before .before .before .before .args in
+    step-literal (args .text .now) (args .at) ((c .before .q2) .given .0 .0) ((c .before .q2) .given .0 .1 .0) ((c .before .q2) .given .0 .1 .1 .0) ((c .before .q2) .given .0 .1 .1 .1 .0) (literal-taken (args .text .now) (args .at) (literal-at .result) (literal-at .ensures) ((c .before .q2) .given .0 .0) ((c .before .q2) .given .0 .1 .0) ((c .before .q2) .given .0 .1 .1 .0) ((c .before .q2) .given .0 .1 .1 .1 .0) ((c .before .q2) .given .1))
 
 add-t12 : tie.Need-add-t12
 add-t12 c = search needs
 
 returns-4 : tie.Need-returns-4
-returns-4 c = step-mark ((c .before .before .before .before .before .args) .text .now) ((c .before .before .before .before .before .args) .at) ((c .before .before .before .before .before .pre) .0) (sym ((c .before .unit-at) .ensures) ∙ (c .if2) .left)
+returns-4 c =
+    let args = c .before .before .before .before .before .args in
+    let pre = c .before .before .before .before .before .pre in
+    step-mark (args .text .now) (args .at) (pre .0) (sym ((c .before .unit-at) .ensures) ∙ (c .if2) .left)
 
 pub step-over-spec : {M : Type 1} → statement M
 step-over-spec =

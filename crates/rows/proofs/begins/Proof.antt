@@ -8,7 +8,9 @@ has-at-requires : tie.Need-has-at-requires
 has-at-requires c κs = search needs
 
 returns : tie.Need-returns
-returns c = λ P f s r. c .has-at .ensures ∙ begins-empty P (c .before .before .before .before .before .before .args .follow .now) (c .before .before .before .before .before .before .args .stops .now) f s (c .before .before .before .before .before .before .args .name .now) (c .before .if1 .taken)
+returns c =
+    let args = c .before .before .before .before .before .before .args in
+    λ P f s r. c .has-at .ensures ∙ begins-empty P (args .follow .now) (args .stops .now) f s (args .name .now) (c .before .if1 .taken)
 
 slice-aggregate-load-row : tie.Need-slice-aggregate-load-row
 slice-aggregate-load-row c = search needs
@@ -23,7 +25,11 @@ meets-requires : tie.Need-meets-requires
 meets-requires c κs = search needs
 
 returns-2 : tie.Need-returns-2
-returns-2 c = λ P f s r. c .meets .ensures ∙ begins-some P (c .before .before .before .before .before .before .before .before .before .before .args .follow .now) (c .before .before .before .before .before .before .before .before .before .before .args .stops .now) f s (c .before .before .before .before .before .before .before .before .before .before .args .name .now) (c .before .before .before .before .before .before .before .before .before .before .args .work .now) (c .before .before .before .load-row .last .1 .0) (c .before .before .before .before .before .if1 .left) r (c .before .before .before .load-row .ensures)
+returns-2 c =
+    let load-row = c .before .before .before .load-row in
+    let if1 = c .before .before .before .before .before .if1 in
+    let args = c .before .before .before .before .before .before .before .before .before .before .args in
+    λ P f s r. c .meets .ensures ∙ begins-some P (args .follow .now) (args .stops .now) f s (args .name .now) (args .work .now) (load-row .last .1 .0) (if1 .left) r (load-row .ensures)
 
 pub begins-spec : {M : Type 1} → statement M
 begins-spec =

@@ -49,14 +49,19 @@ same-length c = search needs
 
 returns : tie.Need-returns
 returns c =
-    let g = c .before .before .before .before .before .before .before .before .before .before .before .before .before .before .before .before .before .before .args in
-    let a = c .before .before .before .before .before .before .before .before .before .before .before .load-row in
-    let k = c .before .before .before .before .before .before .sift in
-    let s = c .before .before .store-row in (
+    let store-row = c .before .before .store-row in
+    let sift = c .before .before .before .before .before .before .sift in
+    let wide = c .before .before .before .before .before .before .before .before .wide in
+    let load-row = c .before .before .before .before .before .before .before .before .before .before .before .load-row in
+    let args = c .before .before .before .before .before .before .before .before .before .before .before .before .before .before .before .before .before .before .args in
+    let g = args in
+    let a = load-row in
+    let k = sift in
+    let s = store-row in (
       λ P b bs f l old.
           live-step P b bs (g .follow .now) (g .letters .now) (a .last .1 .0) (k .last .0) (s .last .0) (drop rowSize (g .row .now)) (g .byte) f l
           (λ x. a .ensures x ∙ ap (λ (r : List ℕ). rowHas r x) (rest-of (g .row .now) rowSize))
-          (rw (c .before .before .before .before .before .before .before .before .wide .ensures .0) at (k .ensures))
+          (rw (wide .ensures .0) at (k .ensures))
           (s .ensures .0)
           old,
       drop-same setBytes rowSize (g .row .now) (s .last .0) (s .kept .0) (omega arith) (s .ensures .1),

@@ -24,8 +24,10 @@ same-length c = search needs
 
 returns : tie.Need-returns
 returns c =
-    let g = c .before .before .before .before .before .before .before .before .args in
-    let s = c .before .before .fill-row in
+    let fill-row = c .before .before .fill-row in
+    let args = c .before .before .before .before .before .before .before .before .args in
+    let g = args in
+    let s = fill-row in
     let w = g .work .now in
     let i = g .i .0 in (
       λ P b bs f l old. rw (row-back w i (s .last .0) (omega arith)) (s .ensures .0 P b bs f l (rw (part-after w i) old)),

@@ -28,16 +28,18 @@ loop-less c = search needs
 
 loop-again : tie.Need-loop-again Inv-loop μ-loop
 loop-again c =
+    let args = c .before .before .args in
     let l = c .before .loop in
-    (omega arith, simp length-set (l .inv .1), ap (λ (x : List ℕ). set x (l .i) 0) (l .inv .2) ∙ fill-more (l .i) 0 (c .before .before .args .area .now) (omega arith))
+    (omega arith, simp length-set (l .inv .1), ap (λ (x : List ℕ). set x (l .i) 0) (l .inv .2) ∙ fill-more (l .i) 0 (args .area .now) (omega arith))
 
 same-length : tie.Need-same-length Inv-loop μ-loop
 same-length c = search needs
 
 returns : tie.Need-returns Inv-loop μ-loop
 returns c =
+    let args = c .before .before .args in
     let l = c .before .loop in
-    let e : l .i ≡ c .before .before .args .size = omega arith in
+    let e : l .i ≡ args .size = omega arith in
     l .inv .2 ∙ rw e refl
 
 pub wipe-spec : {M : Type 1} → statement M

@@ -82,7 +82,10 @@ alternation-loop-holds : (t : ℕ) → alternation-lts.Need-loop-holds (
   is-reads.Asked,
   is-reads.Learnt,
 ) (alternation-at t) alternation.Post alternation-Inv-loop alternation-μ-loop
-alternation-loop-holds t c = (alt-starts ((c .before .before .before .args) .text .now) ((c .before .before .before .args) .allowed) ((c .before .before .before .args) .at) (out ((c .before .before .before .args) .n) ((c .before .before .before .args) .nodes .now) ((c .before .before .before .args) .l) ((c .before .before .before .args) .lits .now)), omega arith, (c .before .before .before .pre) .1 .0, refl, refl)
+alternation-loop-holds t c =
+    let args = c .before .before .before .args in
+    let pre = c .before .before .before .pre in
+    (alt-starts (args .text .now) (args .allowed) (args .at) (out (args .n) (args .nodes .now) (args .l) (args .lits .now)), omega arith, pre .1 .0, refl, refl)
 
 alternation-sequence-requires : (t : ℕ) → alternation-lts.Need-sequence-requires (
   sequence-below t,
@@ -92,7 +95,10 @@ alternation-sequence-requires : (t : ℕ) → alternation-lts.Need-sequence-requ
   is-reads.Asked,
   is-reads.Learnt,
 ) (alternation-at t) alternation.Post alternation-Inv-loop alternation-μ-loop
-alternation-sequence-requires t c κs = let v = (c .before .before .loop) .inv in (omega (arith, (c .before .before .before .before .before .before .pre) .0, v .1, v .2 .inside), (v .2, (c .before .before .before .before .before .before .pre) .1 .1))
+alternation-sequence-requires t c κs =
+    let loop = c .before .before .loop in
+    let pre = c .before .before .before .before .before .before .pre in
+    let v = loop .inv in (omega (arith, pre .0, v .1, v .2 .inside), (v .2, pre .1 .1))
 
 alternation-enum-known-r : (t : ℕ) → alternation-lts.Need-enum-known-r (
   sequence-below t,
@@ -142,7 +148,11 @@ alternation-returns : (t : ℕ) → alternation-lts.Need-returns (
   is-reads.Asked,
   is-reads.Learnt,
 ) (alternation-at t) alternation.Post alternation-Inv-loop alternation-μ-loop
-alternation-returns t c = alt-up ((c .before .before .before .before .before .before .before .before .before .before .before .before .before .args) .text .now) ((c .before .before .before .before .before .before .before .before .before .before .before .before .before .args) .allowed) ((c .before .before .before .before .before .before .before .before .before .before .before .before .before .args) .at) (out ((c .before .before .before .before .before .before .before .before .before .before .before .before .before .args) .n) ((c .before .before .before .before .before .before .before .before .before .before .before .before .before .args) .nodes .now) ((c .before .before .before .before .before .before .before .before .before .before .before .before .before .args) .l) ((c .before .before .before .before .before .before .before .before .before .before .before .before .before .args) .lits .now)) ((c .before .before .before .before .before .before .before .before .before .loop) .again) ((c .before .before .before .before .before .before .before .before .before .loop) .next) ((c .before .before .before .before .before .before .before .before .before .loop) .m) ((c .before .before .before .before .before .before .before .before .before .loop) .k) ((c .before .before .before .before .before .before .before .before .before .loop) .nodes) ((c .before .before .before .before .before .before .sequence) .last .1 .0) ((c .before .before .before .before .before .before .before .before .before .loop) .lits) ((c .before .before .before .before .before .before .sequence) .last .1 .1 .0) ((c .before .before .before .before .before .before .sequence) .result) ((c .before .before .before .before .before .before .before .before .before .loop) .inv .0) ((c .before .before .before .before .before .before .sequence) .ensures) ((c .enum-told) .given .0 .0) ((c .enum-told) .given .1)
+alternation-returns t c =
+    let sequence = c .before .before .before .before .before .before .sequence in
+    let loop = c .before .before .before .before .before .before .before .before .before .loop in
+    let args = c .before .before .before .before .before .before .before .before .before .before .before .before .before .args in
+    alt-up (args .text .now) (args .allowed) (args .at) (out (args .n) (args .nodes .now) (args .l) (args .lits .now)) (loop .again) (loop .next) (loop .m) (loop .k) (loop .nodes) (sequence .last .1 .0) (loop .lits) (sequence .last .1 .1 .0) (sequence .result) (loop .inv .0) (sequence .ensures) ((c .enum-told) .given .0 .0) ((c .enum-told) .given .1)
 
 alternation-emit-if-requires : (t : ℕ) → alternation-lts.Need-emit-if-requires (
   sequence-below t,
@@ -152,7 +162,13 @@ alternation-emit-if-requires : (t : ℕ) → alternation-lts.Need-emit-if-requir
   is-reads.Asked,
   is-reads.Learnt,
 ) (alternation-at t) alternation.Post alternation-Inv-loop alternation-μ-loop
-alternation-emit-if-requires t c κs = let v = (seq-onward ((c .before .before .before .before .before .before .before .before .before .before .before .before .before .before .before .args) .text .now) ((c .before .before .before .before .before .before .before .before .before .before .before .before .before .before .before .args) .allowed) ((c .before .before .before .before .before .before .before .before .before .before .before .before .before .before .before .args) .at) (out ((c .before .before .before .before .before .before .before .before .before .before .before .before .before .before .before .args) .n) ((c .before .before .before .before .before .before .before .before .before .before .before .before .before .before .before .args) .nodes .now) ((c .before .before .before .before .before .before .before .before .before .before .before .before .before .before .before .args) .l) ((c .before .before .before .before .before .before .before .before .before .before .before .before .before .before .before .args) .lits .now)) ((c .before .before .before .before .before .before .before .before .before .before .before .loop) .again) ((c .before .before .before .before .before .before .before .before .before .before .before .loop) .next) ((c .before .before .before .before .before .before .before .before .before .before .before .loop) .m) ((c .before .before .before .before .before .before .before .before .before .before .before .loop) .k) ((c .before .before .before .before .before .before .before .before .before .before .before .loop) .nodes) ((c .before .before .before .before .before .before .before .before .sequence) .last .1 .0) ((c .before .before .before .before .before .before .before .before .before .before .before .loop) .lits) ((c .before .before .before .before .before .before .before .before .sequence) .last .1 .1 .0) ((c .before .before .before .before .before .before .before .before .sequence) .result) ((c .before .before .before .before .before .before .before .before .before .before .before .loop) .inv .0) ((c .before .before .before .before .before .before .before .before .sequence) .ensures) ((c .before .before .r) .given .0 .0) ((c .before .before .r) .given .0 .1 .0) ((c .before .before .r) .given .0 .1 .1 .0) ((c .before .before .r) .given .1)) in omega (arith, v .nodes, v .inside, (c .before .before .before .before .before .before .before .before .before .before .before .before .before .before .before .pre) .1 .0 .short)
+alternation-emit-if-requires t c κs =
+    let r = c .before .before .r in
+    let sequence = c .before .before .before .before .before .before .before .before .sequence in
+    let loop = c .before .before .before .before .before .before .before .before .before .before .before .loop in
+    let args = c .before .before .before .before .before .before .before .before .before .before .before .before .before .before .before .args in
+    let pre = c .before .before .before .before .before .before .before .before .before .before .before .before .before .before .before .pre in
+    let v = (seq-onward (args .text .now) (args .allowed) (args .at) (out (args .n) (args .nodes .now) (args .l) (args .lits .now)) (loop .again) (loop .next) (loop .m) (loop .k) (loop .nodes) (sequence .last .1 .0) (loop .lits) (sequence .last .1 .1 .0) (sequence .result) (loop .inv .0) (sequence .ensures) (r .given .0 .0) (r .given .0 .1 .0) (r .given .0 .1 .1 .0) (r .given .1)) in omega (arith, v .nodes, v .inside, pre .1 .0 .short)
 
 alternation-is-requires : (t : ℕ) → alternation-lts.Need-is-requires (
   sequence-below t,
@@ -192,7 +208,13 @@ alternation-returns-2 : (t : ℕ) → alternation-lts.Need-returns-2 (
   is-reads.Asked,
   is-reads.Learnt,
 ) (alternation-at t) alternation.Post alternation-Inv-loop alternation-μ-loop
-alternation-returns-2 t c = alt-over ((c .before .before .before .before .before .before .before .before .before .before .before .before .before .before .before .before .before .before .before .before .args) .text .now) ((c .before .before .before .before .before .before .before .before .before .before .before .before .before .before .before .before .before .before .before .before .args) .allowed) ((c .before .before .before .before .before .before .before .before .before .before .before .before .before .before .before .before .before .before .before .before .args) .at) (out ((c .before .before .before .before .before .before .before .before .before .before .before .before .before .before .before .before .before .before .before .before .args) .n) ((c .before .before .before .before .before .before .before .before .before .before .before .before .before .before .before .before .before .before .before .before .args) .nodes .now) ((c .before .before .before .before .before .before .before .before .before .before .before .before .before .before .before .before .before .before .before .before .args) .l) ((c .before .before .before .before .before .before .before .before .before .before .before .before .before .before .before .before .before .before .before .before .args) .lits .now)) ((c .before .before .before .before .before .before .before .before .before .before .before .before .before .before .before .before .loop) .again) ((c .before .before .before .before .before .before .before .before .before .before .before .before .before .before .before .before .loop) .next) ((c .before .before .before .before .before .before .before .before .before .before .before .before .before .before .before .before .loop) .m) ((c .before .before .before .before .before .before .before .before .before .before .before .before .before .before .before .before .loop) .k) ((c .before .before .before .before .before .before .before .before .before .before .before .before .before .before .before .before .loop) .nodes) ((c .before .before .before .before .before .before .before .before .before .before .before .before .before .sequence) .last .1 .0) ((c .before .before .before .before .before .before .before .before .before .before .before .before .before .before .before .before .loop) .lits) ((c .before .before .before .before .before .before .before .before .before .before .before .before .before .sequence) .last .1 .1 .0) ((c .before .before .before .before .before .before .before .before .before .before .before .before .before .sequence) .result) ((c .before .before .before .before .before .before .before .before .before .before .before .before .before .before .before .before .loop) .inv .0) ((c .before .before .before .before .before .before .before .before .before .before .before .before .before .sequence) .ensures) ((c .before .before .before .before .before .before .before .r) .given .0 .0) ((c .before .before .before .before .before .before .before .r) .given .0 .1 .0) ((c .before .before .before .before .before .before .before .r) .given .0 .1 .1 .0) ((c .before .before .before .before .before .before .before .r) .given .1) ((c .before .before .before .before .emit-if) .result) ((c .before .before .before .before .emit-if) .last .0) ((c .before .before .before .before .emit-if) .ensures) ((c .before .before .before .before .before .before .before .before .before .before .before .before .before .before .before .before .loop) .inv .1) (sym ((c .before .is) .ensures) ∙ not-true ((c .before .is) .result) ((c .if1) .taken))
+alternation-returns-2 t c =
+    let emit-if = c .before .before .before .before .emit-if in
+    let r = c .before .before .before .before .before .before .before .r in
+    let sequence = c .before .before .before .before .before .before .before .before .before .before .before .before .before .sequence in
+    let loop = c .before .before .before .before .before .before .before .before .before .before .before .before .before .before .before .before .loop in
+    let args = c .before .before .before .before .before .before .before .before .before .before .before .before .before .before .before .before .before .before .before .before .args in
+    alt-over (args .text .now) (args .allowed) (args .at) (out (args .n) (args .nodes .now) (args .l) (args .lits .now)) (loop .again) (loop .next) (loop .m) (loop .k) (loop .nodes) (sequence .last .1 .0) (loop .lits) (sequence .last .1 .1 .0) (sequence .result) (loop .inv .0) (sequence .ensures) (r .given .0 .0) (r .given .0 .1 .0) (r .given .0 .1 .1 .0) (r .given .1) (emit-if .result) (emit-if .last .0) (emit-if .ensures) (loop .inv .1) (sym ((c .before .is) .ensures) ∙ not-true ((c .before .is) .result) ((c .if1) .taken))
 
 alternation-add-next : (t : ℕ) → alternation-lts.Need-add-next (
   sequence-below t,
@@ -202,7 +224,13 @@ alternation-add-next : (t : ℕ) → alternation-lts.Need-add-next (
   is-reads.Asked,
   is-reads.Learnt,
 ) (alternation-at t) alternation.Post alternation-Inv-loop alternation-μ-loop
-alternation-add-next t c = let v = (seq-onward ((c .before .before .before .before .before .before .before .before .before .before .before .before .before .before .before .before .before .before .before .before .args) .text .now) ((c .before .before .before .before .before .before .before .before .before .before .before .before .before .before .before .before .before .before .before .before .args) .allowed) ((c .before .before .before .before .before .before .before .before .before .before .before .before .before .before .before .before .before .before .before .before .args) .at) (out ((c .before .before .before .before .before .before .before .before .before .before .before .before .before .before .before .before .before .before .before .before .args) .n) ((c .before .before .before .before .before .before .before .before .before .before .before .before .before .before .before .before .before .before .before .before .args) .nodes .now) ((c .before .before .before .before .before .before .before .before .before .before .before .before .before .before .before .before .before .before .before .before .args) .l) ((c .before .before .before .before .before .before .before .before .before .before .before .before .before .before .before .before .before .before .before .before .args) .lits .now)) ((c .before .before .before .before .before .before .before .before .before .before .before .before .before .before .before .before .loop) .again) ((c .before .before .before .before .before .before .before .before .before .before .before .before .before .before .before .before .loop) .next) ((c .before .before .before .before .before .before .before .before .before .before .before .before .before .before .before .before .loop) .m) ((c .before .before .before .before .before .before .before .before .before .before .before .before .before .before .before .before .loop) .k) ((c .before .before .before .before .before .before .before .before .before .before .before .before .before .before .before .before .loop) .nodes) ((c .before .before .before .before .before .before .before .before .before .before .before .before .before .sequence) .last .1 .0) ((c .before .before .before .before .before .before .before .before .before .before .before .before .before .before .before .before .loop) .lits) ((c .before .before .before .before .before .before .before .before .before .before .before .before .before .sequence) .last .1 .1 .0) ((c .before .before .before .before .before .before .before .before .before .before .before .before .before .sequence) .result) ((c .before .before .before .before .before .before .before .before .before .before .before .before .before .before .before .before .loop) .inv .0) ((c .before .before .before .before .before .before .before .before .before .before .before .before .before .sequence) .ensures) ((c .before .before .before .before .before .before .before .r) .given .0 .0) ((c .before .before .before .before .before .before .before .r) .given .0 .1 .0) ((c .before .before .before .before .before .before .before .r) .given .0 .1 .1 .0) ((c .before .before .before .before .before .before .before .r) .given .1)) in omega (arith, v .inside, (c .before .before .before .before .before .before .before .before .before .before .before .before .before .before .before .before .before .before .before .before .pre) .1 .0 .short)
+alternation-add-next t c =
+    let r = c .before .before .before .before .before .before .before .r in
+    let sequence = c .before .before .before .before .before .before .before .before .before .before .before .before .before .sequence in
+    let loop = c .before .before .before .before .before .before .before .before .before .before .before .before .before .before .before .before .loop in
+    let args = c .before .before .before .before .before .before .before .before .before .before .before .before .before .before .before .before .before .before .before .before .args in
+    let pre = c .before .before .before .before .before .before .before .before .before .before .before .before .before .before .before .before .before .before .before .before .pre in
+    let v = (seq-onward (args .text .now) (args .allowed) (args .at) (out (args .n) (args .nodes .now) (args .l) (args .lits .now)) (loop .again) (loop .next) (loop .m) (loop .k) (loop .nodes) (sequence .last .1 .0) (loop .lits) (sequence .last .1 .1 .0) (sequence .result) (loop .inv .0) (sequence .ensures) (r .given .0 .0) (r .given .0 .1 .0) (r .given .0 .1 .1 .0) (r .given .1)) in omega (arith, v .inside, pre .1 .0 .short)
 
 alternation-loop-less : (t : ℕ) → alternation-lts.Need-loop-less (
   sequence-below t,
@@ -212,7 +240,12 @@ alternation-loop-less : (t : ℕ) → alternation-lts.Need-loop-less (
   is-reads.Asked,
   is-reads.Learnt,
 ) (alternation-at t) alternation.Post alternation-Inv-loop alternation-μ-loop
-alternation-loop-less t c = let v = (seq-onward ((c .before .before .before .before .before .before .before .before .before .before .before .before .before .before .before .before .before .before .before .before .args) .text .now) ((c .before .before .before .before .before .before .before .before .before .before .before .before .before .before .before .before .before .before .before .before .args) .allowed) ((c .before .before .before .before .before .before .before .before .before .before .before .before .before .before .before .before .before .before .before .before .args) .at) (out ((c .before .before .before .before .before .before .before .before .before .before .before .before .before .before .before .before .before .before .before .before .args) .n) ((c .before .before .before .before .before .before .before .before .before .before .before .before .before .before .before .before .before .before .before .before .args) .nodes .now) ((c .before .before .before .before .before .before .before .before .before .before .before .before .before .before .before .before .before .before .before .before .args) .l) ((c .before .before .before .before .before .before .before .before .before .before .before .before .before .before .before .before .before .before .before .before .args) .lits .now)) ((c .before .before .before .before .before .before .before .before .before .before .before .before .before .before .before .before .loop) .again) ((c .before .before .before .before .before .before .before .before .before .before .before .before .before .before .before .before .loop) .next) ((c .before .before .before .before .before .before .before .before .before .before .before .before .before .before .before .before .loop) .m) ((c .before .before .before .before .before .before .before .before .before .before .before .before .before .before .before .before .loop) .k) ((c .before .before .before .before .before .before .before .before .before .before .before .before .before .before .before .before .loop) .nodes) ((c .before .before .before .before .before .before .before .before .before .before .before .before .before .sequence) .last .1 .0) ((c .before .before .before .before .before .before .before .before .before .before .before .before .before .before .before .before .loop) .lits) ((c .before .before .before .before .before .before .before .before .before .before .before .before .before .sequence) .last .1 .1 .0) ((c .before .before .before .before .before .before .before .before .before .before .before .before .before .sequence) .result) ((c .before .before .before .before .before .before .before .before .before .before .before .before .before .before .before .before .loop) .inv .0) ((c .before .before .before .before .before .before .before .before .before .before .before .before .before .sequence) .ensures) ((c .before .before .before .before .before .before .before .r) .given .0 .0) ((c .before .before .before .before .before .before .before .r) .given .0 .1 .0) ((c .before .before .before .before .before .before .before .r) .given .0 .1 .1 .0) ((c .before .before .before .before .before .before .before .r) .given .1)) in omega (arith, v .further, v .inside, byte-inside ((c .before .before .before .before .before .before .before .before .before .before .before .before .before .before .before .before .before .before .before .before .args) .text .now) ((c .before .before .before .before .before .before .before .r) .given .0 .0) bar (sym ((c .before .is) .ensures) ∙ not-false ((c .before .is) .result) ((c .if1) .left)))
+alternation-loop-less t c =
+    let r = c .before .before .before .before .before .before .before .r in
+    let sequence = c .before .before .before .before .before .before .before .before .before .before .before .before .before .sequence in
+    let loop = c .before .before .before .before .before .before .before .before .before .before .before .before .before .before .before .before .loop in
+    let args = c .before .before .before .before .before .before .before .before .before .before .before .before .before .before .before .before .before .before .before .before .args in
+    let v = (seq-onward (args .text .now) (args .allowed) (args .at) (out (args .n) (args .nodes .now) (args .l) (args .lits .now)) (loop .again) (loop .next) (loop .m) (loop .k) (loop .nodes) (sequence .last .1 .0) (loop .lits) (sequence .last .1 .1 .0) (sequence .result) (loop .inv .0) (sequence .ensures) (r .given .0 .0) (r .given .0 .1 .0) (r .given .0 .1 .1 .0) (r .given .1)) in omega (arith, v .further, v .inside, byte-inside (args .text .now) (r .given .0 .0) bar (sym ((c .before .is) .ensures) ∙ not-false ((c .before .is) .result) ((c .if1) .left)))
 
 alternation-loop-again : (t : ℕ) → alternation-lts.Need-loop-again (
   sequence-below t,
@@ -222,7 +255,14 @@ alternation-loop-again : (t : ℕ) → alternation-lts.Need-loop-again (
   is-reads.Asked,
   is-reads.Learnt,
 ) (alternation-at t) alternation.Post alternation-Inv-loop alternation-μ-loop
-alternation-loop-again t c = let v = (seq-onward ((c .before .before .before .before .before .before .before .before .before .before .before .before .before .before .before .before .before .before .before .before .args) .text .now) ((c .before .before .before .before .before .before .before .before .before .before .before .before .before .before .before .before .before .before .before .before .args) .allowed) ((c .before .before .before .before .before .before .before .before .before .before .before .before .before .before .before .before .before .before .before .before .args) .at) (out ((c .before .before .before .before .before .before .before .before .before .before .before .before .before .before .before .before .before .before .before .before .args) .n) ((c .before .before .before .before .before .before .before .before .before .before .before .before .before .before .before .before .before .before .before .before .args) .nodes .now) ((c .before .before .before .before .before .before .before .before .before .before .before .before .before .before .before .before .before .before .before .before .args) .l) ((c .before .before .before .before .before .before .before .before .before .before .before .before .before .before .before .before .before .before .before .before .args) .lits .now)) ((c .before .before .before .before .before .before .before .before .before .before .before .before .before .before .before .before .loop) .again) ((c .before .before .before .before .before .before .before .before .before .before .before .before .before .before .before .before .loop) .next) ((c .before .before .before .before .before .before .before .before .before .before .before .before .before .before .before .before .loop) .m) ((c .before .before .before .before .before .before .before .before .before .before .before .before .before .before .before .before .loop) .k) ((c .before .before .before .before .before .before .before .before .before .before .before .before .before .before .before .before .loop) .nodes) ((c .before .before .before .before .before .before .before .before .before .before .before .before .before .sequence) .last .1 .0) ((c .before .before .before .before .before .before .before .before .before .before .before .before .before .before .before .before .loop) .lits) ((c .before .before .before .before .before .before .before .before .before .before .before .before .before .sequence) .last .1 .1 .0) ((c .before .before .before .before .before .before .before .before .before .before .before .before .before .sequence) .result) ((c .before .before .before .before .before .before .before .before .before .before .before .before .before .before .before .before .loop) .inv .0) ((c .before .before .before .before .before .before .before .before .before .before .before .before .before .sequence) .ensures) ((c .before .before .before .before .before .before .before .r) .given .0 .0) ((c .before .before .before .before .before .before .before .r) .given .0 .1 .0) ((c .before .before .before .before .before .before .before .r) .given .0 .1 .1 .0) ((c .before .before .before .before .before .before .before .r) .given .1)) in (alt-again ((c .before .before .before .before .before .before .before .before .before .before .before .before .before .before .before .before .before .before .before .before .args) .text .now) ((c .before .before .before .before .before .before .before .before .before .before .before .before .before .before .before .before .before .before .before .before .args) .allowed) ((c .before .before .before .before .before .before .before .before .before .before .before .before .before .before .before .before .before .before .before .before .args) .at) (out ((c .before .before .before .before .before .before .before .before .before .before .before .before .before .before .before .before .before .before .before .before .args) .n) ((c .before .before .before .before .before .before .before .before .before .before .before .before .before .before .before .before .before .before .before .before .args) .nodes .now) ((c .before .before .before .before .before .before .before .before .before .before .before .before .before .before .before .before .before .before .before .before .args) .l) ((c .before .before .before .before .before .before .before .before .before .before .before .before .before .before .before .before .before .before .before .before .args) .lits .now)) ((c .before .before .before .before .before .before .before .before .before .before .before .before .before .before .before .before .loop) .again) ((c .before .before .before .before .before .before .before .before .before .before .before .before .before .before .before .before .loop) .next) ((c .before .before .before .before .before .before .before .before .before .before .before .before .before .before .before .before .loop) .m) ((c .before .before .before .before .before .before .before .before .before .before .before .before .before .before .before .before .loop) .k) ((c .before .before .before .before .before .before .before .before .before .before .before .before .before .before .before .before .loop) .nodes) ((c .before .before .before .before .before .before .before .before .before .before .before .before .before .sequence) .last .1 .0) ((c .before .before .before .before .before .before .before .before .before .before .before .before .before .before .before .before .loop) .lits) ((c .before .before .before .before .before .before .before .before .before .before .before .before .before .sequence) .last .1 .1 .0) ((c .before .before .before .before .before .before .before .before .before .before .before .before .before .sequence) .result) ((c .before .before .before .before .before .before .before .before .before .before .before .before .before .before .before .before .loop) .inv .0) ((c .before .before .before .before .before .before .before .before .before .before .before .before .before .sequence) .ensures) ((c .before .before .before .before .before .before .before .r) .given .0 .0) ((c .before .before .before .before .before .before .before .r) .given .0 .1 .0) ((c .before .before .before .before .before .before .before .r) .given .0 .1 .1 .0) ((c .before .before .before .before .before .before .before .r) .given .1) ((c .before .before .before .before .emit-if) .result) ((c .before .before .before .before .emit-if) .last .0) ((c .before .before .before .before .emit-if) .ensures) (sym ((c .before .is) .ensures) ∙ not-false ((c .before .is) .result) ((c .if1) .left)), omega (arith, v .further, (c .before .before .before .before .before .before .before .before .before .before .before .before .before .before .before .before .loop) .inv .1), alt-begun ((c .before .before .before .before .before .before .before .before .before .before .before .before .before .before .before .before .before .before .before .before .args) .text .now) ((c .before .before .before .before .before .before .before .before .before .before .before .before .before .before .before .before .before .before .before .before .args) .allowed) ((c .before .before .before .before .before .before .before .before .before .before .before .before .before .before .before .before .before .before .before .before .args) .at) (out ((c .before .before .before .before .before .before .before .before .before .before .before .before .before .before .before .before .before .before .before .before .args) .n) ((c .before .before .before .before .before .before .before .before .before .before .before .before .before .before .before .before .before .before .before .before .args) .nodes .now) ((c .before .before .before .before .before .before .before .before .before .before .before .before .before .before .before .before .before .before .before .before .args) .l) ((c .before .before .before .before .before .before .before .before .before .before .before .before .before .before .before .before .before .before .before .before .args) .lits .now)) ((c .before .before .before .before .before .before .before .before .before .before .before .before .before .before .before .before .loop) .again) ((c .before .before .before .before .before .before .before .before .before .before .before .before .before .before .before .before .loop) .next) ((c .before .before .before .before .before .before .before .before .before .before .before .before .before .before .before .before .loop) .m) ((c .before .before .before .before .before .before .before .before .before .before .before .before .before .before .before .before .loop) .k) ((c .before .before .before .before .before .before .before .before .before .before .before .before .before .before .before .before .loop) .nodes) ((c .before .before .before .before .before .before .before .before .before .before .before .before .before .sequence) .last .1 .0) ((c .before .before .before .before .before .before .before .before .before .before .before .before .before .before .before .before .loop) .lits) ((c .before .before .before .before .before .before .before .before .before .before .before .before .before .sequence) .last .1 .1 .0) ((c .before .before .before .before .before .before .before .before .before .before .before .before .before .sequence) .result) ((c .before .before .before .before .before .before .before .before .before .before .before .before .before .before .before .before .loop) .inv .0) ((c .before .before .before .before .before .before .before .before .before .before .before .before .before .sequence) .ensures) ((c .before .before .before .before .before .before .before .r) .given .0 .0) ((c .before .before .before .before .before .before .before .r) .given .0 .1 .0) ((c .before .before .before .before .before .before .before .r) .given .0 .1 .1 .0) ((c .before .before .before .before .before .before .before .r) .given .1) ((c .before .before .before .before .emit-if) .result) ((c .before .before .before .before .emit-if) .last .0) ((c .before .before .before .before .emit-if) .ensures) (sym ((c .before .is) .ensures) ∙ not-false ((c .before .is) .result) ((c .if1) .left)) ((c .before .before .before .before .before .before .before .before .before .before .before .before .before .before .before .before .before .before .before .before .pre) .1 .0 .short), omega (arith, (c .before .before .before .before .emit-if) .kept, (c .before .before .before .before .before .before .before .before .before .before .before .before .before .sequence) .kept, (c .before .before .before .before .before .before .before .before .before .before .before .before .before .before .before .before .loop) .inv .3), omega (arith, (c .before .before .before .before .before .before .before .before .before .before .before .before .before .sequence) .kept, (c .before .before .before .before .before .before .before .before .before .before .before .before .before .before .before .before .loop) .inv .4))
+alternation-loop-again t c =
+    let emit-if = c .before .before .before .before .emit-if in
+    let r = c .before .before .before .before .before .before .before .r in
+    let sequence = c .before .before .before .before .before .before .before .before .before .before .before .before .before .sequence in
+    let loop = c .before .before .before .before .before .before .before .before .before .before .before .before .before .before .before .before .loop in
+    let args = c .before .before .before .before .before .before .before .before .before .before .before .before .before .before .before .before .before .before .before .before .args in
+    let pre = c .before .before .before .before .before .before .before .before .before .before .before .before .before .before .before .before .before .before .before .before .pre in
+    let v = (seq-onward (args .text .now) (args .allowed) (args .at) (out (args .n) (args .nodes .now) (args .l) (args .lits .now)) (loop .again) (loop .next) (loop .m) (loop .k) (loop .nodes) (sequence .last .1 .0) (loop .lits) (sequence .last .1 .1 .0) (sequence .result) (loop .inv .0) (sequence .ensures) (r .given .0 .0) (r .given .0 .1 .0) (r .given .0 .1 .1 .0) (r .given .1)) in (alt-again (args .text .now) (args .allowed) (args .at) (out (args .n) (args .nodes .now) (args .l) (args .lits .now)) (loop .again) (loop .next) (loop .m) (loop .k) (loop .nodes) (sequence .last .1 .0) (loop .lits) (sequence .last .1 .1 .0) (sequence .result) (loop .inv .0) (sequence .ensures) (r .given .0 .0) (r .given .0 .1 .0) (r .given .0 .1 .1 .0) (r .given .1) (emit-if .result) (emit-if .last .0) (emit-if .ensures) (sym ((c .before .is) .ensures) ∙ not-false ((c .before .is) .result) ((c .if1) .left)), omega (arith, v .further, loop .inv .1), alt-begun (args .text .now) (args .allowed) (args .at) (out (args .n) (args .nodes .now) (args .l) (args .lits .now)) (loop .again) (loop .next) (loop .m) (loop .k) (loop .nodes) (sequence .last .1 .0) (loop .lits) (sequence .last .1 .1 .0) (sequence .result) (loop .inv .0) (sequence .ensures) (r .given .0 .0) (r .given .0 .1 .0) (r .given .0 .1 .1 .0) (r .given .1) (emit-if .result) (emit-if .last .0) (emit-if .ensures) (sym ((c .before .is) .ensures) ∙ not-false ((c .before .is) .result) ((c .if1) .left)) (pre .1 .0 .short), omega (arith, emit-if .kept, sequence .kept, loop .inv .3), omega (arith, sequence .kept, loop .inv .4))
 
 abbrev sequence-Inv-loop : sequence-lts.InvT-loop
 sequence-Inv-loop text nodes₀ lits₀ at n l allowed next₀ m₀ k₀ again₀ nodes lits next m k again =
@@ -240,7 +280,10 @@ sequence-loop-holds : (t : ℕ) → sequence-lts.Need-loop-holds (
   unit-at-reads.Asked,
   unit-at-reads.Learnt,
 ) (sequence-at t) sequence.Post sequence-Inv-loop sequence-μ-loop
-sequence-loop-holds t c = (seq-starts ((c .before .before .before .args) .text .now) ((c .before .before .before .args) .allowed) ((c .before .before .before .args) .at) (out ((c .before .before .before .args) .n) ((c .before .before .before .args) .nodes .now) ((c .before .before .before .args) .l) ((c .before .before .before .args) .lits .now)), omega arith, (c .before .before .before .pre) .1 .0, refl, refl)
+sequence-loop-holds t c =
+    let args = c .before .before .before .args in
+    let pre = c .before .before .before .pre in
+    (seq-starts (args .text .now) (args .allowed) (args .at) (out (args .n) (args .nodes .now) (args .l) (args .lits .now)), omega arith, pre .1 .0, refl, refl)
 
 sequence-unit-requires : (t : ℕ) → sequence-lts.Need-unit-requires (
   unit-below t,
@@ -250,7 +293,10 @@ sequence-unit-requires : (t : ℕ) → sequence-lts.Need-unit-requires (
   unit-at-reads.Asked,
   unit-at-reads.Learnt,
 ) (sequence-at t) sequence.Post sequence-Inv-loop sequence-μ-loop
-sequence-unit-requires t c κs = let v = (c .before .before .loop) .inv in (omega (arith, (c .before .before .before .before .before .before .pre) .0, v .1, v .2 .inside), (v .2, (c .before .before .before .before .before .before .pre) .1 .1))
+sequence-unit-requires t c κs =
+    let loop = c .before .before .loop in
+    let pre = c .before .before .before .before .before .before .pre in
+    let v = loop .inv in (omega (arith, pre .0, v .1, v .2 .inside), (v .2, pre .1 .1))
 
 sequence-enum-known-r : (t : ℕ) → sequence-lts.Need-enum-known-r (
   unit-below t,
@@ -300,7 +346,11 @@ sequence-returns : (t : ℕ) → sequence-lts.Need-returns (
   unit-at-reads.Asked,
   unit-at-reads.Learnt,
 ) (sequence-at t) sequence.Post sequence-Inv-loop sequence-μ-loop
-sequence-returns t c = seq-up ((c .before .before .before .before .before .before .before .before .before .before .before .before .before .args) .text .now) ((c .before .before .before .before .before .before .before .before .before .before .before .before .before .args) .allowed) ((c .before .before .before .before .before .before .before .before .before .before .before .before .before .args) .at) (out ((c .before .before .before .before .before .before .before .before .before .before .before .before .before .args) .n) ((c .before .before .before .before .before .before .before .before .before .before .before .before .before .args) .nodes .now) ((c .before .before .before .before .before .before .before .before .before .before .before .before .before .args) .l) ((c .before .before .before .before .before .before .before .before .before .before .before .before .before .args) .lits .now)) ((c .before .before .before .before .before .before .before .before .before .loop) .again) ((c .before .before .before .before .before .before .before .before .before .loop) .next) ((c .before .before .before .before .before .before .before .before .before .loop) .m) ((c .before .before .before .before .before .before .before .before .before .loop) .k) ((c .before .before .before .before .before .before .before .before .before .loop) .nodes) ((c .before .before .before .before .before .before .unit) .last .1 .0) ((c .before .before .before .before .before .before .before .before .before .loop) .lits) ((c .before .before .before .before .before .before .unit) .last .1 .1 .0) ((c .before .before .before .before .before .before .unit) .result) ((c .before .before .before .before .before .before .before .before .before .loop) .inv .0) ((c .before .before .before .before .before .before .unit) .ensures) ((c .enum-told) .given .0 .0) ((c .enum-told) .given .1)
+sequence-returns t c =
+    let unit = c .before .before .before .before .before .before .unit in
+    let loop = c .before .before .before .before .before .before .before .before .before .loop in
+    let args = c .before .before .before .before .before .before .before .before .before .before .before .before .before .args in
+    seq-up (args .text .now) (args .allowed) (args .at) (out (args .n) (args .nodes .now) (args .l) (args .lits .now)) (loop .again) (loop .next) (loop .m) (loop .k) (loop .nodes) (unit .last .1 .0) (loop .lits) (unit .last .1 .1 .0) (unit .result) (loop .inv .0) (unit .ensures) ((c .enum-told) .given .0 .0) ((c .enum-told) .given .1)
 
 sequence-emit-if-requires : (t : ℕ) → sequence-lts.Need-emit-if-requires (
   unit-below t,
@@ -310,7 +360,13 @@ sequence-emit-if-requires : (t : ℕ) → sequence-lts.Need-emit-if-requires (
   unit-at-reads.Asked,
   unit-at-reads.Learnt,
 ) (sequence-at t) sequence.Post sequence-Inv-loop sequence-μ-loop
-sequence-emit-if-requires t c κs = let v = (unit-onward ((c .before .before .before .before .before .before .before .before .before .before .before .before .before .before .before .args) .text .now) ((c .before .before .before .before .before .before .before .before .before .before .before .before .before .before .before .args) .allowed) ((c .before .before .before .before .before .before .before .before .before .before .before .before .before .before .before .args) .at) (out ((c .before .before .before .before .before .before .before .before .before .before .before .before .before .before .before .args) .n) ((c .before .before .before .before .before .before .before .before .before .before .before .before .before .before .before .args) .nodes .now) ((c .before .before .before .before .before .before .before .before .before .before .before .before .before .before .before .args) .l) ((c .before .before .before .before .before .before .before .before .before .before .before .before .before .before .before .args) .lits .now)) ((c .before .before .before .before .before .before .before .before .before .before .before .loop) .again) ((c .before .before .before .before .before .before .before .before .before .before .before .loop) .next) ((c .before .before .before .before .before .before .before .before .before .before .before .loop) .m) ((c .before .before .before .before .before .before .before .before .before .before .before .loop) .k) ((c .before .before .before .before .before .before .before .before .before .before .before .loop) .nodes) ((c .before .before .before .before .before .before .before .before .unit) .last .1 .0) ((c .before .before .before .before .before .before .before .before .before .before .before .loop) .lits) ((c .before .before .before .before .before .before .before .before .unit) .last .1 .1 .0) ((c .before .before .before .before .before .before .before .before .unit) .result) ((c .before .before .before .before .before .before .before .before .before .before .before .loop) .inv .0) ((c .before .before .before .before .before .before .before .before .unit) .ensures) ((c .before .before .r) .given .0 .0) ((c .before .before .r) .given .0 .1 .0) ((c .before .before .r) .given .0 .1 .1 .0) ((c .before .before .r) .given .1)) in omega (arith, v .nodes, v .inside, (c .before .before .before .before .before .before .before .before .before .before .before .before .before .before .before .pre) .1 .0 .short)
+sequence-emit-if-requires t c κs =
+    let r = c .before .before .r in
+    let unit = c .before .before .before .before .before .before .before .before .unit in
+    let loop = c .before .before .before .before .before .before .before .before .before .before .before .loop in
+    let args = c .before .before .before .before .before .before .before .before .before .before .before .before .before .before .before .args in
+    let pre = c .before .before .before .before .before .before .before .before .before .before .before .before .before .before .before .pre in
+    let v = (unit-onward (args .text .now) (args .allowed) (args .at) (out (args .n) (args .nodes .now) (args .l) (args .lits .now)) (loop .again) (loop .next) (loop .m) (loop .k) (loop .nodes) (unit .last .1 .0) (loop .lits) (unit .last .1 .1 .0) (unit .result) (loop .inv .0) (unit .ensures) (r .given .0 .0) (r .given .0 .1 .0) (r .given .0 .1 .1 .0) (r .given .1)) in omega (arith, v .nodes, v .inside, pre .1 .0 .short)
 
 sequence-unit-at-requires : (t : ℕ) → sequence-lts.Need-unit-at-requires (
   unit-below t,
@@ -350,7 +406,13 @@ sequence-returns-2 : (t : ℕ) → sequence-lts.Need-returns-2 (
   unit-at-reads.Asked,
   unit-at-reads.Learnt,
 ) (sequence-at t) sequence.Post sequence-Inv-loop sequence-μ-loop
-sequence-returns-2 t c = seq-over ((c .before .before .before .before .before .before .before .before .before .before .before .before .before .before .before .before .before .before .before .before .args) .text .now) ((c .before .before .before .before .before .before .before .before .before .before .before .before .before .before .before .before .before .before .before .before .args) .allowed) ((c .before .before .before .before .before .before .before .before .before .before .before .before .before .before .before .before .before .before .before .before .args) .at) (out ((c .before .before .before .before .before .before .before .before .before .before .before .before .before .before .before .before .before .before .before .before .args) .n) ((c .before .before .before .before .before .before .before .before .before .before .before .before .before .before .before .before .before .before .before .before .args) .nodes .now) ((c .before .before .before .before .before .before .before .before .before .before .before .before .before .before .before .before .before .before .before .before .args) .l) ((c .before .before .before .before .before .before .before .before .before .before .before .before .before .before .before .before .before .before .before .before .args) .lits .now)) ((c .before .before .before .before .before .before .before .before .before .before .before .before .before .before .before .before .loop) .again) ((c .before .before .before .before .before .before .before .before .before .before .before .before .before .before .before .before .loop) .next) ((c .before .before .before .before .before .before .before .before .before .before .before .before .before .before .before .before .loop) .m) ((c .before .before .before .before .before .before .before .before .before .before .before .before .before .before .before .before .loop) .k) ((c .before .before .before .before .before .before .before .before .before .before .before .before .before .before .before .before .loop) .nodes) ((c .before .before .before .before .before .before .before .before .before .before .before .before .before .unit) .last .1 .0) ((c .before .before .before .before .before .before .before .before .before .before .before .before .before .before .before .before .loop) .lits) ((c .before .before .before .before .before .before .before .before .before .before .before .before .before .unit) .last .1 .1 .0) ((c .before .before .before .before .before .before .before .before .before .before .before .before .before .unit) .result) ((c .before .before .before .before .before .before .before .before .before .before .before .before .before .before .before .before .loop) .inv .0) ((c .before .before .before .before .before .before .before .before .before .before .before .before .before .unit) .ensures) ((c .before .before .before .before .before .before .before .r) .given .0 .0) ((c .before .before .before .before .before .before .before .r) .given .0 .1 .0) ((c .before .before .before .before .before .before .before .r) .given .0 .1 .1 .0) ((c .before .before .before .before .before .before .before .r) .given .1) ((c .before .before .before .before .emit-if) .result) ((c .before .before .before .before .emit-if) .last .0) ((c .before .before .before .before .emit-if) .ensures) ((c .before .before .before .before .before .before .before .before .before .before .before .before .before .before .before .before .loop) .inv .1) (sym ((c .before .unit-at) .ensures) ∙ not-true ((c .before .unit-at) .result) ((c .if1) .taken))
+sequence-returns-2 t c =
+    let emit-if = c .before .before .before .before .emit-if in
+    let r = c .before .before .before .before .before .before .before .r in
+    let unit = c .before .before .before .before .before .before .before .before .before .before .before .before .before .unit in
+    let loop = c .before .before .before .before .before .before .before .before .before .before .before .before .before .before .before .before .loop in
+    let args = c .before .before .before .before .before .before .before .before .before .before .before .before .before .before .before .before .before .before .before .before .args in
+    seq-over (args .text .now) (args .allowed) (args .at) (out (args .n) (args .nodes .now) (args .l) (args .lits .now)) (loop .again) (loop .next) (loop .m) (loop .k) (loop .nodes) (unit .last .1 .0) (loop .lits) (unit .last .1 .1 .0) (unit .result) (loop .inv .0) (unit .ensures) (r .given .0 .0) (r .given .0 .1 .0) (r .given .0 .1 .1 .0) (r .given .1) (emit-if .result) (emit-if .last .0) (emit-if .ensures) (loop .inv .1) (sym ((c .before .unit-at) .ensures) ∙ not-true ((c .before .unit-at) .result) ((c .if1) .taken))
 
 sequence-loop-less : (t : ℕ) → sequence-lts.Need-loop-less (
   unit-below t,
@@ -360,7 +422,12 @@ sequence-loop-less : (t : ℕ) → sequence-lts.Need-loop-less (
   unit-at-reads.Asked,
   unit-at-reads.Learnt,
 ) (sequence-at t) sequence.Post sequence-Inv-loop sequence-μ-loop
-sequence-loop-less t c = let v = (unit-onward ((c .before .before .before .before .before .before .before .before .before .before .before .before .before .before .before .before .before .before .before .before .args) .text .now) ((c .before .before .before .before .before .before .before .before .before .before .before .before .before .before .before .before .before .before .before .before .args) .allowed) ((c .before .before .before .before .before .before .before .before .before .before .before .before .before .before .before .before .before .before .before .before .args) .at) (out ((c .before .before .before .before .before .before .before .before .before .before .before .before .before .before .before .before .before .before .before .before .args) .n) ((c .before .before .before .before .before .before .before .before .before .before .before .before .before .before .before .before .before .before .before .before .args) .nodes .now) ((c .before .before .before .before .before .before .before .before .before .before .before .before .before .before .before .before .before .before .before .before .args) .l) ((c .before .before .before .before .before .before .before .before .before .before .before .before .before .before .before .before .before .before .before .before .args) .lits .now)) ((c .before .before .before .before .before .before .before .before .before .before .before .before .before .before .before .before .loop) .again) ((c .before .before .before .before .before .before .before .before .before .before .before .before .before .before .before .before .loop) .next) ((c .before .before .before .before .before .before .before .before .before .before .before .before .before .before .before .before .loop) .m) ((c .before .before .before .before .before .before .before .before .before .before .before .before .before .before .before .before .loop) .k) ((c .before .before .before .before .before .before .before .before .before .before .before .before .before .before .before .before .loop) .nodes) ((c .before .before .before .before .before .before .before .before .before .before .before .before .before .unit) .last .1 .0) ((c .before .before .before .before .before .before .before .before .before .before .before .before .before .before .before .before .loop) .lits) ((c .before .before .before .before .before .before .before .before .before .before .before .before .before .unit) .last .1 .1 .0) ((c .before .before .before .before .before .before .before .before .before .before .before .before .before .unit) .result) ((c .before .before .before .before .before .before .before .before .before .before .before .before .before .before .before .before .loop) .inv .0) ((c .before .before .before .before .before .before .before .before .before .before .before .before .before .unit) .ensures) ((c .before .before .before .before .before .before .before .r) .given .0 .0) ((c .before .before .before .before .before .before .before .r) .given .0 .1 .0) ((c .before .before .before .before .before .before .before .r) .given .0 .1 .1 .0) ((c .before .before .before .before .before .before .before .r) .given .1)) in omega (arith, v .further, v .inside)
+sequence-loop-less t c =
+    let r = c .before .before .before .before .before .before .before .r in
+    let unit = c .before .before .before .before .before .before .before .before .before .before .before .before .before .unit in
+    let loop = c .before .before .before .before .before .before .before .before .before .before .before .before .before .before .before .before .loop in
+    let args = c .before .before .before .before .before .before .before .before .before .before .before .before .before .before .before .before .before .before .before .before .args in
+    let v = (unit-onward (args .text .now) (args .allowed) (args .at) (out (args .n) (args .nodes .now) (args .l) (args .lits .now)) (loop .again) (loop .next) (loop .m) (loop .k) (loop .nodes) (unit .last .1 .0) (loop .lits) (unit .last .1 .1 .0) (unit .result) (loop .inv .0) (unit .ensures) (r .given .0 .0) (r .given .0 .1 .0) (r .given .0 .1 .1 .0) (r .given .1)) in omega (arith, v .further, v .inside)
 
 sequence-loop-again : (t : ℕ) → sequence-lts.Need-loop-again (
   unit-below t,
@@ -370,7 +437,14 @@ sequence-loop-again : (t : ℕ) → sequence-lts.Need-loop-again (
   unit-at-reads.Asked,
   unit-at-reads.Learnt,
 ) (sequence-at t) sequence.Post sequence-Inv-loop sequence-μ-loop
-sequence-loop-again t c = let v = (unit-onward ((c .before .before .before .before .before .before .before .before .before .before .before .before .before .before .before .before .before .before .before .before .args) .text .now) ((c .before .before .before .before .before .before .before .before .before .before .before .before .before .before .before .before .before .before .before .before .args) .allowed) ((c .before .before .before .before .before .before .before .before .before .before .before .before .before .before .before .before .before .before .before .before .args) .at) (out ((c .before .before .before .before .before .before .before .before .before .before .before .before .before .before .before .before .before .before .before .before .args) .n) ((c .before .before .before .before .before .before .before .before .before .before .before .before .before .before .before .before .before .before .before .before .args) .nodes .now) ((c .before .before .before .before .before .before .before .before .before .before .before .before .before .before .before .before .before .before .before .before .args) .l) ((c .before .before .before .before .before .before .before .before .before .before .before .before .before .before .before .before .before .before .before .before .args) .lits .now)) ((c .before .before .before .before .before .before .before .before .before .before .before .before .before .before .before .before .loop) .again) ((c .before .before .before .before .before .before .before .before .before .before .before .before .before .before .before .before .loop) .next) ((c .before .before .before .before .before .before .before .before .before .before .before .before .before .before .before .before .loop) .m) ((c .before .before .before .before .before .before .before .before .before .before .before .before .before .before .before .before .loop) .k) ((c .before .before .before .before .before .before .before .before .before .before .before .before .before .before .before .before .loop) .nodes) ((c .before .before .before .before .before .before .before .before .before .before .before .before .before .unit) .last .1 .0) ((c .before .before .before .before .before .before .before .before .before .before .before .before .before .before .before .before .loop) .lits) ((c .before .before .before .before .before .before .before .before .before .before .before .before .before .unit) .last .1 .1 .0) ((c .before .before .before .before .before .before .before .before .before .before .before .before .before .unit) .result) ((c .before .before .before .before .before .before .before .before .before .before .before .before .before .before .before .before .loop) .inv .0) ((c .before .before .before .before .before .before .before .before .before .before .before .before .before .unit) .ensures) ((c .before .before .before .before .before .before .before .r) .given .0 .0) ((c .before .before .before .before .before .before .before .r) .given .0 .1 .0) ((c .before .before .before .before .before .before .before .r) .given .0 .1 .1 .0) ((c .before .before .before .before .before .before .before .r) .given .1)) in (seq-again ((c .before .before .before .before .before .before .before .before .before .before .before .before .before .before .before .before .before .before .before .before .args) .text .now) ((c .before .before .before .before .before .before .before .before .before .before .before .before .before .before .before .before .before .before .before .before .args) .allowed) ((c .before .before .before .before .before .before .before .before .before .before .before .before .before .before .before .before .before .before .before .before .args) .at) (out ((c .before .before .before .before .before .before .before .before .before .before .before .before .before .before .before .before .before .before .before .before .args) .n) ((c .before .before .before .before .before .before .before .before .before .before .before .before .before .before .before .before .before .before .before .before .args) .nodes .now) ((c .before .before .before .before .before .before .before .before .before .before .before .before .before .before .before .before .before .before .before .before .args) .l) ((c .before .before .before .before .before .before .before .before .before .before .before .before .before .before .before .before .before .before .before .before .args) .lits .now)) ((c .before .before .before .before .before .before .before .before .before .before .before .before .before .before .before .before .loop) .again) ((c .before .before .before .before .before .before .before .before .before .before .before .before .before .before .before .before .loop) .next) ((c .before .before .before .before .before .before .before .before .before .before .before .before .before .before .before .before .loop) .m) ((c .before .before .before .before .before .before .before .before .before .before .before .before .before .before .before .before .loop) .k) ((c .before .before .before .before .before .before .before .before .before .before .before .before .before .before .before .before .loop) .nodes) ((c .before .before .before .before .before .before .before .before .before .before .before .before .before .unit) .last .1 .0) ((c .before .before .before .before .before .before .before .before .before .before .before .before .before .before .before .before .loop) .lits) ((c .before .before .before .before .before .before .before .before .before .before .before .before .before .unit) .last .1 .1 .0) ((c .before .before .before .before .before .before .before .before .before .before .before .before .before .unit) .result) ((c .before .before .before .before .before .before .before .before .before .before .before .before .before .before .before .before .loop) .inv .0) ((c .before .before .before .before .before .before .before .before .before .before .before .before .before .unit) .ensures) ((c .before .before .before .before .before .before .before .r) .given .0 .0) ((c .before .before .before .before .before .before .before .r) .given .0 .1 .0) ((c .before .before .before .before .before .before .before .r) .given .0 .1 .1 .0) ((c .before .before .before .before .before .before .before .r) .given .1) ((c .before .before .before .before .emit-if) .result) ((c .before .before .before .before .emit-if) .last .0) ((c .before .before .before .before .emit-if) .ensures) (sym ((c .before .unit-at) .ensures) ∙ not-false ((c .before .unit-at) .result) ((c .if1) .left)), omega (arith, v .further, (c .before .before .before .before .before .before .before .before .before .before .before .before .before .before .before .before .loop) .inv .1), seq-begun ((c .before .before .before .before .before .before .before .before .before .before .before .before .before .before .before .before .before .before .before .before .args) .text .now) ((c .before .before .before .before .before .before .before .before .before .before .before .before .before .before .before .before .before .before .before .before .args) .allowed) ((c .before .before .before .before .before .before .before .before .before .before .before .before .before .before .before .before .before .before .before .before .args) .at) (out ((c .before .before .before .before .before .before .before .before .before .before .before .before .before .before .before .before .before .before .before .before .args) .n) ((c .before .before .before .before .before .before .before .before .before .before .before .before .before .before .before .before .before .before .before .before .args) .nodes .now) ((c .before .before .before .before .before .before .before .before .before .before .before .before .before .before .before .before .before .before .before .before .args) .l) ((c .before .before .before .before .before .before .before .before .before .before .before .before .before .before .before .before .before .before .before .before .args) .lits .now)) ((c .before .before .before .before .before .before .before .before .before .before .before .before .before .before .before .before .loop) .again) ((c .before .before .before .before .before .before .before .before .before .before .before .before .before .before .before .before .loop) .next) ((c .before .before .before .before .before .before .before .before .before .before .before .before .before .before .before .before .loop) .m) ((c .before .before .before .before .before .before .before .before .before .before .before .before .before .before .before .before .loop) .k) ((c .before .before .before .before .before .before .before .before .before .before .before .before .before .before .before .before .loop) .nodes) ((c .before .before .before .before .before .before .before .before .before .before .before .before .before .unit) .last .1 .0) ((c .before .before .before .before .before .before .before .before .before .before .before .before .before .before .before .before .loop) .lits) ((c .before .before .before .before .before .before .before .before .before .before .before .before .before .unit) .last .1 .1 .0) ((c .before .before .before .before .before .before .before .before .before .before .before .before .before .unit) .result) ((c .before .before .before .before .before .before .before .before .before .before .before .before .before .before .before .before .loop) .inv .0) ((c .before .before .before .before .before .before .before .before .before .before .before .before .before .unit) .ensures) ((c .before .before .before .before .before .before .before .r) .given .0 .0) ((c .before .before .before .before .before .before .before .r) .given .0 .1 .0) ((c .before .before .before .before .before .before .before .r) .given .0 .1 .1 .0) ((c .before .before .before .before .before .before .before .r) .given .1) ((c .before .before .before .before .emit-if) .result) ((c .before .before .before .before .emit-if) .last .0) ((c .before .before .before .before .emit-if) .ensures) ((c .before .before .before .before .before .before .before .before .before .before .before .before .before .before .before .before .before .before .before .before .pre) .1 .0 .short), omega (arith, (c .before .before .before .before .emit-if) .kept, (c .before .before .before .before .before .before .before .before .before .before .before .before .before .unit) .kept, (c .before .before .before .before .before .before .before .before .before .before .before .before .before .before .before .before .loop) .inv .3), omega (arith, (c .before .before .before .before .before .before .before .before .before .before .before .before .before .unit) .kept, (c .before .before .before .before .before .before .before .before .before .before .before .before .before .before .before .before .loop) .inv .4))
+sequence-loop-again t c =
+    let emit-if = c .before .before .before .before .emit-if in
+    let r = c .before .before .before .before .before .before .before .r in
+    let unit = c .before .before .before .before .before .before .before .before .before .before .before .before .before .unit in
+    let loop = c .before .before .before .before .before .before .before .before .before .before .before .before .before .before .before .before .loop in
+    let args = c .before .before .before .before .before .before .before .before .before .before .before .before .before .before .before .before .before .before .before .before .args in
+    let pre = c .before .before .before .before .before .before .before .before .before .before .before .before .before .before .before .before .before .before .before .before .pre in
+    let v = (unit-onward (args .text .now) (args .allowed) (args .at) (out (args .n) (args .nodes .now) (args .l) (args .lits .now)) (loop .again) (loop .next) (loop .m) (loop .k) (loop .nodes) (unit .last .1 .0) (loop .lits) (unit .last .1 .1 .0) (unit .result) (loop .inv .0) (unit .ensures) (r .given .0 .0) (r .given .0 .1 .0) (r .given .0 .1 .1 .0) (r .given .1)) in (seq-again (args .text .now) (args .allowed) (args .at) (out (args .n) (args .nodes .now) (args .l) (args .lits .now)) (loop .again) (loop .next) (loop .m) (loop .k) (loop .nodes) (unit .last .1 .0) (loop .lits) (unit .last .1 .1 .0) (unit .result) (loop .inv .0) (unit .ensures) (r .given .0 .0) (r .given .0 .1 .0) (r .given .0 .1 .1 .0) (r .given .1) (emit-if .result) (emit-if .last .0) (emit-if .ensures) (sym ((c .before .unit-at) .ensures) ∙ not-false ((c .before .unit-at) .result) ((c .if1) .left)), omega (arith, v .further, loop .inv .1), seq-begun (args .text .now) (args .allowed) (args .at) (out (args .n) (args .nodes .now) (args .l) (args .lits .now)) (loop .again) (loop .next) (loop .m) (loop .k) (loop .nodes) (unit .last .1 .0) (loop .lits) (unit .last .1 .1 .0) (unit .result) (loop .inv .0) (unit .ensures) (r .given .0 .0) (r .given .0 .1 .0) (r .given .0 .1 .1 .0) (r .given .1) (emit-if .result) (emit-if .last .0) (emit-if .ensures) (pre .1 .0 .short), omega (arith, emit-if .kept, unit .kept, loop .inv .3), omega (arith, unit .kept, loop .inv .4))
 
 unit-is-requires : (t : ℕ) → unit-lts.Need-is-requires (
   is-reads.Asked,
@@ -430,7 +504,11 @@ unit-returns : (t : ℕ) → unit-lts.Need-returns (
   missing-reads.Asked,
   missing-reads.Learnt,
 ) (unit-at t) unit.Post
-unit-returns t c = rw ((c .refused) .ensures) (fails-deep ((c .before .before .before .before .before .before .before .args) .text .now) ((c .before .before .before .before .before .before .before .args) .allowed) ((c .before .before .before .before .before .before .before .args) .at) (sym ((c .before .before .before .is) .ensures) ∙ (c .before .before .if1) .taken) ((c .before .if2) .taken))
+unit-returns t c =
+    let if1 = c .before .before .if1 in
+    let is = c .before .before .before .is in
+    let args = c .before .before .before .before .before .before .before .args in
+    rw ((c .refused) .ensures) (fails-deep (args .text .now) (args .allowed) (args .at) (sym (is .ensures) ∙ if1 .taken) ((c .before .if2) .taken))
 
 unit-add-is : (t : ℕ) → unit-lts.Need-add-is (
   is-reads.Asked,
@@ -450,7 +528,9 @@ unit-add-is : (t : ℕ) → unit-lts.Need-add-is (
   missing-reads.Asked,
   missing-reads.Learnt,
 ) (unit-at t) unit.Post
-unit-add-is t c = omega (arith, ((c .before .before .before .before .before .before .pre) .1 .0) .inside, ((c .before .before .before .before .before .before .pre) .1 .0) .short)
+unit-add-is t c =
+    let pre = c .before .before .before .before .before .before .pre in
+    omega (arith, (pre .1 .0) .inside, (pre .1 .0) .short)
 
 unit-is-requires-2 : (t : ℕ) → unit-lts.Need-is-requires-2 (
   is-reads.Asked,
@@ -510,7 +590,9 @@ unit-add-stars : (t : ℕ) → unit-lts.Need-add-stars (
   missing-reads.Asked,
   missing-reads.Learnt,
 ) (unit-at t) unit.Post
-unit-add-stars t c = omega (arith, ((c .before .before .before .before .before .before .before .before .before .before .before .before .before .pre) .1 .0) .inside, ((c .before .before .before .before .before .before .before .before .before .before .before .before .before .pre) .1 .0) .short)
+unit-add-stars t c =
+    let pre = c .before .before .before .before .before .before .before .before .before .before .before .before .before .pre in
+    omega (arith, (pre .1 .0) .inside, (pre .1 .0) .short)
 
 unit-add-stars-2 : (t : ℕ) → unit-lts.Need-add-stars-2 (
   is-reads.Asked,
@@ -530,7 +612,9 @@ unit-add-stars-2 : (t : ℕ) → unit-lts.Need-add-stars-2 (
   missing-reads.Asked,
   missing-reads.Learnt,
 ) (unit-at t) unit.Post
-unit-add-stars-2 t c = omega (arith, ((c .before .before .before .before .before .before .before .before .before .before .before .before .before .pre) .1 .0) .inside, ((c .before .before .before .before .before .before .before .before .before .before .before .before .before .pre) .1 .0) .short, ((c .before .before .before .before .before .before .before .before .before .before .before .before .before .pre) .1 .0) .nodes)
+unit-add-stars-2 t c =
+    let pre = c .before .before .before .before .before .before .before .before .before .before .before .before .before .pre in
+    omega (arith, (pre .1 .0) .inside, (pre .1 .0) .short, (pre .1 .0) .nodes)
 
 unit-stars-requires : (t : ℕ) → unit-lts.Need-stars-requires (
   is-reads.Asked,
@@ -550,7 +634,15 @@ unit-stars-requires : (t : ℕ) → unit-lts.Need-stars-requires (
   missing-reads.Asked,
   missing-reads.Learnt,
 ) (unit-at t) unit.Post
-unit-stars-requires t c κs = void-begun ((c .before .before .before .before .before .before .before .before .before .before .before .before .before .args) .text .now) ((c .before .before .before .before .before .before .before .before .before .before .before .before .before .args) .allowed) ((c .before .before .before .before .before .before .before .before .before .before .before .before .before .args) .at) ((c .before .before .before .before .before .before .before .before .before .before .before .before .before .args) .n) ((c .before .before .before .before .before .before .before .before .before .before .before .before .before .args) .l) ((c .before .before .before .before .before .before .before .before .before .before .before .before .before .args) .nodes .now) ((c .before .before .before .before .before .before .before .before .before .before .before .before .before .args) .lits .now) ((c .before .before .before .before .before .before .before .before .before .before .before .before .before .pre) .1 .0) (((c .before .before .before .before .before .before .before .before .before .before .before .before .before .args) .allowed) - 1) (omega (arith, (c .before .before .before .before .before .before .before .if2) .left)) (sym ((c .before .before .before .before .before .before .before .before .before .is) .ensures) ∙ (c .before .before .before .before .before .before .before .before .if1) .taken) (sym ((c .before .before .before .before .before .before .is2) .ensures) ∙ (c .before .before .before .before .before .if3) .taken)
+unit-stars-requires t c κs =
+    let if3 = c .before .before .before .before .before .if3 in
+    let is2 = c .before .before .before .before .before .before .is2 in
+    let if2 = c .before .before .before .before .before .before .before .if2 in
+    let if1 = c .before .before .before .before .before .before .before .before .if1 in
+    let is = c .before .before .before .before .before .before .before .before .before .is in
+    let args = c .before .before .before .before .before .before .before .before .before .before .before .before .before .args in
+    let pre = c .before .before .before .before .before .before .before .before .before .before .before .before .before .pre in
+    void-begun (args .text .now) (args .allowed) (args .at) (args .n) (args .l) (args .nodes .now) (args .lits .now) (pre .1 .0) ((args .allowed) - 1) (omega (arith, if2 .left)) (sym (is .ensures) ∙ if1 .taken) (sym (is2 .ensures) ∙ if3 .taken)
 
 unit-same-length : (t : ℕ) → unit-lts.Need-same-length (
   is-reads.Asked,
@@ -590,7 +682,17 @@ unit-returns-2 : (t : ℕ) → unit-lts.Need-returns-2 (
   missing-reads.Asked,
   missing-reads.Learnt,
 ) (unit-at t) unit.Post
-unit-returns-2 t c = unit-void ((c .before .before .before .before .before .before .before .before .before .before .before .before .before .before .before .before .args) .text .now) ((c .before .before .before .before .before .before .before .before .before .before .before .before .before .before .before .before .args) .allowed) ((c .before .before .before .before .before .before .before .before .before .before .before .before .before .before .before .before .args) .at) ((c .before .before .before .before .before .before .before .before .before .before .before .before .before .before .before .before .args) .n) ((c .before .before .before .before .before .before .before .before .before .before .before .before .before .before .before .before .args) .l) ((c .before .before .before .before .before .before .before .before .before .before .before .before .before .before .before .before .args) .nodes .now) ((c .before .before .before .before .before .before .before .before .before .before .before .before .before .before .before .before .args) .lits .now) ((c .before .before .before .before .before .before .before .before .before .before .before .before .before .before .before .before .pre) .1 .0) (((c .before .before .before .before .before .before .before .before .before .before .before .before .before .before .before .before .args) .allowed) - 1) (omega (arith, (c .before .before .before .before .before .before .before .before .before .before .if2) .left)) (sym ((c .before .before .before .before .before .before .before .before .before .before .before .before .is) .ensures) ∙ (c .before .before .before .before .before .before .before .before .before .before .before .if1) .taken) (sym ((c .before .before .before .before .before .before .before .before .before .is2) .ensures) ∙ (c .before .before .before .before .before .before .before .before .if3) .taken) ((c .before .before .before .before .before .before .emit) .last .0) ((c .before .before .stars) .last .1 .0) ((c .before .before .stars) .result) ((c .before .before .before .before .before .before .emit) .ensures) ((c .before .before .stars) .ensures)
+unit-returns-2 t c =
+    let stars = c .before .before .stars in
+    let emit = c .before .before .before .before .before .before .emit in
+    let if3 = c .before .before .before .before .before .before .before .before .if3 in
+    let is2 = c .before .before .before .before .before .before .before .before .before .is2 in
+    let if2 = c .before .before .before .before .before .before .before .before .before .before .if2 in
+    let if1 = c .before .before .before .before .before .before .before .before .before .before .before .if1 in
+    let is = c .before .before .before .before .before .before .before .before .before .before .before .before .is in
+    let args = c .before .before .before .before .before .before .before .before .before .before .before .before .before .before .before .before .args in
+    let pre = c .before .before .before .before .before .before .before .before .before .before .before .before .before .before .before .before .pre in
+    unit-void (args .text .now) (args .allowed) (args .at) (args .n) (args .l) (args .nodes .now) (args .lits .now) (pre .1 .0) ((args .allowed) - 1) (omega (arith, if2 .left)) (sym (is .ensures) ∙ if1 .taken) (sym (is2 .ensures) ∙ if3 .taken) (emit .last .0) (stars .last .1 .0) (stars .result) (emit .ensures) (stars .ensures)
 
 unit-add-alternation : (t : ℕ) → unit-lts.Need-add-alternation (
   is-reads.Asked,
@@ -610,7 +712,9 @@ unit-add-alternation : (t : ℕ) → unit-lts.Need-add-alternation (
   missing-reads.Asked,
   missing-reads.Learnt,
 ) (unit-at t) unit.Post
-unit-add-alternation t c = omega (arith, ((c .before .before .before .before .before .before .before .before .before .before .pre) .1 .0) .inside, ((c .before .before .before .before .before .before .before .before .before .before .pre) .1 .0) .short)
+unit-add-alternation t c =
+    let pre = c .before .before .before .before .before .before .before .before .before .before .pre in
+    omega (arith, (pre .1 .0) .inside, (pre .1 .0) .short)
 
 unit-sub-alternation : (t : ℕ) → unit-lts.Need-sub-alternation (
   is-reads.Asked,
@@ -630,7 +734,9 @@ unit-sub-alternation : (t : ℕ) → unit-lts.Need-sub-alternation (
   missing-reads.Asked,
   missing-reads.Learnt,
 ) (unit-at t) unit.Post
-unit-sub-alternation t c = omega (arith, (c .before .before .before .before .if2) .left)
+unit-sub-alternation t c =
+    let if2 = c .before .before .before .before .if2 in
+    omega (arith, if2 .left)
 
 unit-alternation-requires : (t : ℕ) → unit-lts.Need-alternation-requires (
   is-reads.Asked,
@@ -650,7 +756,13 @@ unit-alternation-requires : (t : ℕ) → unit-lts.Need-alternation-requires (
   missing-reads.Asked,
   missing-reads.Learnt,
 ) (unit-at t) unit.Post
-unit-alternation-requires t c κs = let i = byte-inside ((c .before .before .before .before .before .before .before .before .before .before .args) .text .now) ((c .before .before .before .before .before .before .before .before .before .before .args) .at) leftParenthesis (sym ((c .before .before .before .before .before .before .is) .ensures) ∙ (c .before .before .before .before .before .if1) .taken) in (omega (arith, (c .before .before .before .before .before .before .before .before .before .before .pre) .0, i, (c .before .before .before .before .if2) .left), (record { inside = omega arith; short = ((c .before .before .before .before .before .before .before .before .before .before .pre) .1 .0) .short; nodes = omega (arith, ((c .before .before .before .before .before .before .before .before .before .before .pre) .1 .0) .nodes); leaves = omega (arith, ((c .before .before .before .before .before .before .before .before .before .before .pre) .1 .0) .leaves) }, omega (arith, (c .before .before .before .before .before .before .before .before .before .before .pre) .1 .1)))
+unit-alternation-requires t c κs =
+    let if2 = c .before .before .before .before .if2 in
+    let if1 = c .before .before .before .before .before .if1 in
+    let is = c .before .before .before .before .before .before .is in
+    let args = c .before .before .before .before .before .before .before .before .before .before .args in
+    let pre = c .before .before .before .before .before .before .before .before .before .before .pre in
+    let i = byte-inside (args .text .now) (args .at) leftParenthesis (sym (is .ensures) ∙ if1 .taken) in (omega (arith, pre .0, i, if2 .left), (record { inside = omega arith; short = (pre .1 .0) .short; nodes = omega (arith, (pre .1 .0) .nodes); leaves = omega (arith, (pre .1 .0) .leaves) }, omega (arith, pre .1 .1)))
 
 unit-enum-known-r : (t : ℕ) → unit-lts.Need-enum-known-r (
   is-reads.Asked,
@@ -750,7 +862,16 @@ unit-returns-3 : (t : ℕ) → unit-lts.Need-returns-3 (
   missing-reads.Asked,
   missing-reads.Learnt,
 ) (unit-at t) unit.Post
-unit-returns-3 t c = unit-up ((c .before .before .before .before .before .before .before .before .before .before .before .before .before .before .before .before .before .args) .text .now) ((c .before .before .before .before .before .before .before .before .before .before .before .before .before .before .before .before .before .args) .allowed) ((c .before .before .before .before .before .before .before .before .before .before .before .before .before .before .before .before .before .args) .at) ((c .before .before .before .before .before .before .before .before .before .before .before .before .before .before .before .before .before .args) .n) ((c .before .before .before .before .before .before .before .before .before .before .before .before .before .before .before .before .before .args) .l) ((c .before .before .before .before .before .before .before .before .before .before .before .before .before .before .before .before .before .args) .nodes .now) ((c .before .before .before .before .before .before .before .before .before .before .before .before .before .before .before .before .before .args) .lits .now) ((c .before .before .before .before .before .before .before .before .before .before .before .before .before .before .before .before .before .pre) .1 .0) (((c .before .before .before .before .before .before .before .before .before .before .before .before .before .before .before .before .before .args) .allowed) - 1) (omega (arith, (c .before .before .before .before .before .before .before .before .before .before .before .if2) .left)) (sym ((c .before .before .before .before .before .before .before .before .before .before .before .before .before .is) .ensures) ∙ (c .before .before .before .before .before .before .before .before .before .before .before .before .if1) .taken) (sym ((c .before .before .before .before .before .before .before .before .before .before .is2) .ensures) ∙ (c .before .before .before .before .before .before .before .before .before .if3) .left) ((c .before .before .before .before .before .before .alternation) .last .1 .0) ((c .before .before .before .before .before .before .alternation) .last .1 .1 .0) ((c .before .before .before .before .before .before .alternation) .result) ((c .before .before .before .before .before .before .alternation) .ensures) ((c .enum-told) .given .0 .0) ((c .enum-told) .given .1)
+unit-returns-3 t c =
+    let alternation = c .before .before .before .before .before .before .alternation in
+    let if3 = c .before .before .before .before .before .before .before .before .before .if3 in
+    let is2 = c .before .before .before .before .before .before .before .before .before .before .is2 in
+    let if2 = c .before .before .before .before .before .before .before .before .before .before .before .if2 in
+    let if1 = c .before .before .before .before .before .before .before .before .before .before .before .before .if1 in
+    let is = c .before .before .before .before .before .before .before .before .before .before .before .before .before .is in
+    let args = c .before .before .before .before .before .before .before .before .before .before .before .before .before .before .before .before .before .args in
+    let pre = c .before .before .before .before .before .before .before .before .before .before .before .before .before .before .before .before .before .pre in
+    unit-up (args .text .now) (args .allowed) (args .at) (args .n) (args .l) (args .nodes .now) (args .lits .now) (pre .1 .0) ((args .allowed) - 1) (omega (arith, if2 .left)) (sym (is .ensures) ∙ if1 .taken) (sym (is2 .ensures) ∙ if3 .left) (alternation .last .1 .0) (alternation .last .1 .1 .0) (alternation .result) (alternation .ensures) ((c .enum-told) .given .0 .0) ((c .enum-told) .given .1)
 
 unit-is-requires-3 : (t : ℕ) → unit-lts.Need-is-requires-3 (
   is-reads.Asked,
@@ -790,7 +911,17 @@ unit-add-stars-3 : (t : ℕ) → unit-lts.Need-add-stars-3 (
   missing-reads.Asked,
   missing-reads.Learnt,
 ) (unit-at t) unit.Post
-unit-add-stars-3 t c = let v = inner-onward ((c .before .before .before .before .before .before .before .before .before .before .before .before .before .before .before .before .before .before .before .before .before .args) .text .now) ((c .before .before .before .before .before .before .before .before .before .before .before .before .before .before .before .before .before .before .before .before .before .args) .allowed) ((c .before .before .before .before .before .before .before .before .before .before .before .before .before .before .before .before .before .before .before .before .before .args) .at) ((c .before .before .before .before .before .before .before .before .before .before .before .before .before .before .before .before .before .before .before .before .before .args) .n) ((c .before .before .before .before .before .before .before .before .before .before .before .before .before .before .before .before .before .before .before .before .before .args) .l) ((c .before .before .before .before .before .before .before .before .before .before .before .before .before .before .before .before .before .before .before .before .before .args) .nodes .now) ((c .before .before .before .before .before .before .before .before .before .before .before .before .before .before .before .before .before .before .before .before .before .args) .lits .now) ((c .before .before .before .before .before .before .before .before .before .before .before .before .before .before .before .before .before .before .before .before .before .pre) .1 .0) (((c .before .before .before .before .before .before .before .before .before .before .before .before .before .before .before .before .before .before .before .before .before .args) .allowed) - 1) (omega (arith, (c .before .before .before .before .before .before .before .before .before .before .before .before .before .before .before .if2) .left)) (sym ((c .before .before .before .before .before .before .before .before .before .before .before .before .before .before .before .before .before .is) .ensures) ∙ (c .before .before .before .before .before .before .before .before .before .before .before .before .before .before .before .before .if1) .taken) (sym ((c .before .before .before .before .before .before .before .before .before .before .before .before .before .before .is2) .ensures) ∙ (c .before .before .before .before .before .before .before .before .before .before .before .before .before .if3) .left) ((c .before .before .before .before .before .before .before .before .before .before .alternation) .last .1 .0) ((c .before .before .before .before .before .before .before .before .before .before .alternation) .last .1 .1 .0) ((c .before .before .before .before .before .before .before .before .before .before .alternation) .result) ((c .before .before .before .before .before .before .before .before .before .before .alternation) .ensures) ((c .before .before .before .before .r) .given .0 .0) ((c .before .before .before .before .r) .given .0 .1 .0) ((c .before .before .before .before .r) .given .0 .1 .1 .0) ((c .before .before .before .before .r) .given .1) in omega (arith, v .inside, ((c .before .before .before .before .before .before .before .before .before .before .before .before .before .before .before .before .before .before .before .before .before .pre) .1 .0) .short)
+unit-add-stars-3 t c =
+    let r = c .before .before .before .before .r in
+    let alternation = c .before .before .before .before .before .before .before .before .before .before .alternation in
+    let if3 = c .before .before .before .before .before .before .before .before .before .before .before .before .before .if3 in
+    let is2 = c .before .before .before .before .before .before .before .before .before .before .before .before .before .before .is2 in
+    let if2 = c .before .before .before .before .before .before .before .before .before .before .before .before .before .before .before .if2 in
+    let if1 = c .before .before .before .before .before .before .before .before .before .before .before .before .before .before .before .before .if1 in
+    let is = c .before .before .before .before .before .before .before .before .before .before .before .before .before .before .before .before .before .is in
+    let args = c .before .before .before .before .before .before .before .before .before .before .before .before .before .before .before .before .before .before .before .before .before .args in
+    let pre = c .before .before .before .before .before .before .before .before .before .before .before .before .before .before .before .before .before .before .before .before .before .pre in
+    let v = inner-onward (args .text .now) (args .allowed) (args .at) (args .n) (args .l) (args .nodes .now) (args .lits .now) (pre .1 .0) ((args .allowed) - 1) (omega (arith, if2 .left)) (sym (is .ensures) ∙ if1 .taken) (sym (is2 .ensures) ∙ if3 .left) (alternation .last .1 .0) (alternation .last .1 .1 .0) (alternation .result) (alternation .ensures) (r .given .0 .0) (r .given .0 .1 .0) (r .given .0 .1 .1 .0) (r .given .1) in omega (arith, v .inside, (pre .1 .0) .short)
 
 unit-stars-requires-2 : (t : ℕ) → unit-lts.Need-stars-requires-2 (
   is-reads.Asked,
@@ -810,7 +941,18 @@ unit-stars-requires-2 : (t : ℕ) → unit-lts.Need-stars-requires-2 (
   missing-reads.Asked,
   missing-reads.Learnt,
 ) (unit-at t) unit.Post
-unit-stars-requires-2 t c κs = group-begun ((c .before .before .before .before .before .before .before .before .before .before .before .before .before .before .before .before .before .before .before .before .before .args) .text .now) ((c .before .before .before .before .before .before .before .before .before .before .before .before .before .before .before .before .before .before .before .before .before .args) .allowed) ((c .before .before .before .before .before .before .before .before .before .before .before .before .before .before .before .before .before .before .before .before .before .args) .at) ((c .before .before .before .before .before .before .before .before .before .before .before .before .before .before .before .before .before .before .before .before .before .args) .n) ((c .before .before .before .before .before .before .before .before .before .before .before .before .before .before .before .before .before .before .before .before .before .args) .l) ((c .before .before .before .before .before .before .before .before .before .before .before .before .before .before .before .before .before .before .before .before .before .args) .nodes .now) ((c .before .before .before .before .before .before .before .before .before .before .before .before .before .before .before .before .before .before .before .before .before .args) .lits .now) ((c .before .before .before .before .before .before .before .before .before .before .before .before .before .before .before .before .before .before .before .before .before .pre) .1 .0) (((c .before .before .before .before .before .before .before .before .before .before .before .before .before .before .before .before .before .before .before .before .before .args) .allowed) - 1) (omega (arith, (c .before .before .before .before .before .before .before .before .before .before .before .before .before .before .before .if2) .left)) (sym ((c .before .before .before .before .before .before .before .before .before .before .before .before .before .before .before .before .before .is) .ensures) ∙ (c .before .before .before .before .before .before .before .before .before .before .before .before .before .before .before .before .if1) .taken) (sym ((c .before .before .before .before .before .before .before .before .before .before .before .before .before .before .is2) .ensures) ∙ (c .before .before .before .before .before .before .before .before .before .before .before .before .before .if3) .left) ((c .before .before .before .before .before .before .before .before .before .before .alternation) .last .1 .0) ((c .before .before .before .before .before .before .before .before .before .before .alternation) .last .1 .1 .0) ((c .before .before .before .before .before .before .before .before .before .before .alternation) .result) ((c .before .before .before .before .before .before .before .before .before .before .alternation) .ensures) ((c .before .before .before .before .r) .given .0 .0) ((c .before .before .before .before .r) .given .0 .1 .0) ((c .before .before .before .before .r) .given .0 .1 .1 .0) ((c .before .before .before .before .r) .given .1) (sym ((c .before .before .is3) .ensures) ∙ (c .before .if4) .taken)
+unit-stars-requires-2 t c κs =
+    let is3 = c .before .before .is3 in
+    let r = c .before .before .before .before .r in
+    let alternation = c .before .before .before .before .before .before .before .before .before .before .alternation in
+    let if3 = c .before .before .before .before .before .before .before .before .before .before .before .before .before .if3 in
+    let is2 = c .before .before .before .before .before .before .before .before .before .before .before .before .before .before .is2 in
+    let if2 = c .before .before .before .before .before .before .before .before .before .before .before .before .before .before .before .if2 in
+    let if1 = c .before .before .before .before .before .before .before .before .before .before .before .before .before .before .before .before .if1 in
+    let is = c .before .before .before .before .before .before .before .before .before .before .before .before .before .before .before .before .before .is in
+    let args = c .before .before .before .before .before .before .before .before .before .before .before .before .before .before .before .before .before .before .before .before .before .args in
+    let pre = c .before .before .before .before .before .before .before .before .before .before .before .before .before .before .before .before .before .before .before .before .before .pre in
+    group-begun (args .text .now) (args .allowed) (args .at) (args .n) (args .l) (args .nodes .now) (args .lits .now) (pre .1 .0) ((args .allowed) - 1) (omega (arith, if2 .left)) (sym (is .ensures) ∙ if1 .taken) (sym (is2 .ensures) ∙ if3 .left) (alternation .last .1 .0) (alternation .last .1 .1 .0) (alternation .result) (alternation .ensures) (r .given .0 .0) (r .given .0 .1 .0) (r .given .0 .1 .1 .0) (r .given .1) (sym (is3 .ensures) ∙ (c .before .if4) .taken)
 
 unit-same-length-4 : (t : ℕ) → unit-lts.Need-same-length-4 (
   is-reads.Asked,
@@ -870,7 +1012,20 @@ unit-returns-4 : (t : ℕ) → unit-lts.Need-returns-4 (
   missing-reads.Asked,
   missing-reads.Learnt,
 ) (unit-at t) unit.Post
-unit-returns-4 t c = unit-group ((c .before .before .before .before .before .before .before .before .before .before .before .before .before .before .before .before .before .before .before .before .before .before .before .before .args) .text .now) ((c .before .before .before .before .before .before .before .before .before .before .before .before .before .before .before .before .before .before .before .before .before .before .before .before .args) .allowed) ((c .before .before .before .before .before .before .before .before .before .before .before .before .before .before .before .before .before .before .before .before .before .before .before .before .args) .at) ((c .before .before .before .before .before .before .before .before .before .before .before .before .before .before .before .before .before .before .before .before .before .before .before .before .args) .n) ((c .before .before .before .before .before .before .before .before .before .before .before .before .before .before .before .before .before .before .before .before .before .before .before .before .args) .l) ((c .before .before .before .before .before .before .before .before .before .before .before .before .before .before .before .before .before .before .before .before .before .before .before .before .args) .nodes .now) ((c .before .before .before .before .before .before .before .before .before .before .before .before .before .before .before .before .before .before .before .before .before .before .before .before .args) .lits .now) ((c .before .before .before .before .before .before .before .before .before .before .before .before .before .before .before .before .before .before .before .before .before .before .before .before .pre) .1 .0) (((c .before .before .before .before .before .before .before .before .before .before .before .before .before .before .before .before .before .before .before .before .before .before .before .before .args) .allowed) - 1) (omega (arith, (c .before .before .before .before .before .before .before .before .before .before .before .before .before .before .before .before .before .before .if2) .left)) (sym ((c .before .before .before .before .before .before .before .before .before .before .before .before .before .before .before .before .before .before .before .before .is) .ensures) ∙ (c .before .before .before .before .before .before .before .before .before .before .before .before .before .before .before .before .before .before .before .if1) .taken) (sym ((c .before .before .before .before .before .before .before .before .before .before .before .before .before .before .before .before .before .is2) .ensures) ∙ (c .before .before .before .before .before .before .before .before .before .before .before .before .before .before .before .before .if3) .left) ((c .before .before .before .before .before .before .before .before .before .before .before .before .before .alternation) .last .1 .0) ((c .before .before .before .before .before .before .before .before .before .before .before .before .before .alternation) .last .1 .1 .0) ((c .before .before .before .before .before .before .before .before .before .before .before .before .before .alternation) .result) ((c .before .before .before .before .before .before .before .before .before .before .before .before .before .alternation) .ensures) ((c .before .before .before .before .before .before .before .r) .given .0 .0) ((c .before .before .before .before .before .before .before .r) .given .0 .1 .0) ((c .before .before .before .before .before .before .before .r) .given .0 .1 .1 .0) ((c .before .before .before .before .before .before .before .r) .given .1) (sym ((c .before .before .before .before .before .is3) .ensures) ∙ (c .before .before .before .before .if4) .taken) ((c .before .before .stars2) .last .1 .0) ((c .before .before .stars2) .result) ((c .before .before .stars2) .ensures)
+unit-returns-4 t c =
+    let stars2 = c .before .before .stars2 in
+    let if4 = c .before .before .before .before .if4 in
+    let is3 = c .before .before .before .before .before .is3 in
+    let r = c .before .before .before .before .before .before .before .r in
+    let alternation = c .before .before .before .before .before .before .before .before .before .before .before .before .before .alternation in
+    let if3 = c .before .before .before .before .before .before .before .before .before .before .before .before .before .before .before .before .if3 in
+    let is2 = c .before .before .before .before .before .before .before .before .before .before .before .before .before .before .before .before .before .is2 in
+    let if2 = c .before .before .before .before .before .before .before .before .before .before .before .before .before .before .before .before .before .before .if2 in
+    let if1 = c .before .before .before .before .before .before .before .before .before .before .before .before .before .before .before .before .before .before .before .if1 in
+    let is = c .before .before .before .before .before .before .before .before .before .before .before .before .before .before .before .before .before .before .before .before .is in
+    let args = c .before .before .before .before .before .before .before .before .before .before .before .before .before .before .before .before .before .before .before .before .before .before .before .before .args in
+    let pre = c .before .before .before .before .before .before .before .before .before .before .before .before .before .before .before .before .before .before .before .before .before .before .before .before .pre in
+    unit-group (args .text .now) (args .allowed) (args .at) (args .n) (args .l) (args .nodes .now) (args .lits .now) (pre .1 .0) ((args .allowed) - 1) (omega (arith, if2 .left)) (sym (is .ensures) ∙ if1 .taken) (sym (is2 .ensures) ∙ if3 .left) (alternation .last .1 .0) (alternation .last .1 .1 .0) (alternation .result) (alternation .ensures) (r .given .0 .0) (r .given .0 .1 .0) (r .given .0 .1 .1 .0) (r .given .1) (sym (is3 .ensures) ∙ if4 .taken) (stars2 .last .1 .0) (stars2 .result) (stars2 .ensures)
 
 unit-refused-requires-2 : (t : ℕ) → unit-lts.Need-refused-requires-2 (
   is-reads.Asked,
@@ -950,7 +1105,18 @@ unit-returns-5 : (t : ℕ) → unit-lts.Need-returns-5 (
   missing-reads.Asked,
   missing-reads.Learnt,
 ) (unit-at t) unit.Post
-unit-returns-5 t c = rw ((c .refused2) .ensures) (unit-unclosed ((c .before .before .before .before .before .before .before .before .before .before .before .before .before .before .before .before .before .before .before .before .before .args) .text .now) ((c .before .before .before .before .before .before .before .before .before .before .before .before .before .before .before .before .before .before .before .before .before .args) .allowed) ((c .before .before .before .before .before .before .before .before .before .before .before .before .before .before .before .before .before .before .before .before .before .args) .at) ((c .before .before .before .before .before .before .before .before .before .before .before .before .before .before .before .before .before .before .before .before .before .args) .n) ((c .before .before .before .before .before .before .before .before .before .before .before .before .before .before .before .before .before .before .before .before .before .args) .l) ((c .before .before .before .before .before .before .before .before .before .before .before .before .before .before .before .before .before .before .before .before .before .args) .nodes .now) ((c .before .before .before .before .before .before .before .before .before .before .before .before .before .before .before .before .before .before .before .before .before .args) .lits .now) ((c .before .before .before .before .before .before .before .before .before .before .before .before .before .before .before .before .before .before .before .before .before .pre) .1 .0) (((c .before .before .before .before .before .before .before .before .before .before .before .before .before .before .before .before .before .before .before .before .before .args) .allowed) - 1) (omega (arith, (c .before .before .before .before .before .before .before .before .before .before .before .before .before .before .before .if2) .left)) (sym ((c .before .before .before .before .before .before .before .before .before .before .before .before .before .before .before .before .before .is) .ensures) ∙ (c .before .before .before .before .before .before .before .before .before .before .before .before .before .before .before .before .if1) .taken) (sym ((c .before .before .before .before .before .before .before .before .before .before .before .before .before .before .is2) .ensures) ∙ (c .before .before .before .before .before .before .before .before .before .before .before .before .before .if3) .left) ((c .before .before .before .before .before .before .before .before .before .before .alternation) .last .1 .0) ((c .before .before .before .before .before .before .before .before .before .before .alternation) .last .1 .1 .0) ((c .before .before .before .before .before .before .before .before .before .before .alternation) .result) ((c .before .before .before .before .before .before .before .before .before .before .alternation) .ensures) ((c .before .before .before .before .r) .given .0 .0) ((c .before .before .before .before .r) .given .0 .1 .0) ((c .before .before .before .before .r) .given .0 .1 .1 .0) ((c .before .before .before .before .r) .given .1) (sym ((c .before .before .is3) .ensures) ∙ (c .before .if4) .left))
+unit-returns-5 t c =
+    let is3 = c .before .before .is3 in
+    let r = c .before .before .before .before .r in
+    let alternation = c .before .before .before .before .before .before .before .before .before .before .alternation in
+    let if3 = c .before .before .before .before .before .before .before .before .before .before .before .before .before .if3 in
+    let is2 = c .before .before .before .before .before .before .before .before .before .before .before .before .before .before .is2 in
+    let if2 = c .before .before .before .before .before .before .before .before .before .before .before .before .before .before .before .if2 in
+    let if1 = c .before .before .before .before .before .before .before .before .before .before .before .before .before .before .before .before .if1 in
+    let is = c .before .before .before .before .before .before .before .before .before .before .before .before .before .before .before .before .before .is in
+    let args = c .before .before .before .before .before .before .before .before .before .before .before .before .before .before .before .before .before .before .before .before .before .args in
+    let pre = c .before .before .before .before .before .before .before .before .before .before .before .before .before .before .before .before .before .before .before .before .before .pre in
+    rw ((c .refused2) .ensures) (unit-unclosed (args .text .now) (args .allowed) (args .at) (args .n) (args .l) (args .nodes .now) (args .lits .now) (pre .1 .0) ((args .allowed) - 1) (omega (arith, if2 .left)) (sym (is .ensures) ∙ if1 .taken) (sym (is2 .ensures) ∙ if3 .left) (alternation .last .1 .0) (alternation .last .1 .1 .0) (alternation .result) (alternation .ensures) (r .given .0 .0) (r .given .0 .1 .0) (r .given .0 .1 .1 .0) (r .given .1) (sym (is3 .ensures) ∙ (c .before .if4) .left))
 
 unit-unit-at-requires : (t : ℕ) → unit-lts.Need-unit-at-requires (
   is-reads.Asked,
@@ -990,7 +1156,13 @@ unit-literal-requires : (t : ℕ) → unit-lts.Need-literal-requires (
   missing-reads.Asked,
   missing-reads.Learnt,
 ) (unit-at t) unit.Post
-unit-literal-requires t c κs = (((c .before .before .before .before .before .before .before .before .before .pre) .1 .0), sym ((c .before .before .before .unit-at) .ensures) ∙ (c .before .before .if5) .taken, (sym ((c .before .before .before .before .before .is) .ensures) ∙ (c .before .before .before .before .if1) .left))
+unit-literal-requires t c κs =
+    let if5 = c .before .before .if5 in
+    let unit-at = c .before .before .before .unit-at in
+    let if1 = c .before .before .before .before .if1 in
+    let is = c .before .before .before .before .before .is in
+    let pre = c .before .before .before .before .before .before .before .before .before .pre in
+    ((pre .1 .0), sym (unit-at .ensures) ∙ if5 .taken, (sym (is .ensures) ∙ if1 .left))
 
 unit-same-length-8 : (t : ℕ) → unit-lts.Need-same-length-8 (
   is-reads.Asked,
@@ -1050,7 +1222,10 @@ unit-returns-6 : (t : ℕ) → unit-lts.Need-returns-6 (
   missing-reads.Asked,
   missing-reads.Learnt,
 ) (unit-at t) unit.Post
-unit-returns-6 t c = (c .before .before .before .before .literal) .ensures ((c .before .before .before .before .before .before .before .before .before .before .before .before .before .before .args) .allowed)
+unit-returns-6 t c =
+    let literal = c .before .before .before .before .literal in
+    let args = c .before .before .before .before .before .before .before .before .before .before .before .before .before .before .args in
+    literal .ensures (args .allowed)
 
 unit-missing-requires : (t : ℕ) → unit-lts.Need-missing-requires (
   is-reads.Asked,
@@ -1070,7 +1245,9 @@ unit-missing-requires : (t : ℕ) → unit-lts.Need-missing-requires (
   missing-reads.Asked,
   missing-reads.Learnt,
 ) (unit-at t) unit.Post
-unit-missing-requires t c κs = (((c .before .before .before .before .before .before .before .pre) .1 .0) .inside, sym ((c .before .unit-at) .ensures) ∙ (c .if5) .left)
+unit-missing-requires t c κs =
+    let pre = c .before .before .before .before .before .before .before .pre in
+    ((pre .1 .0) .inside, sym ((c .before .unit-at) .ensures) ∙ (c .if5) .left)
 
 unit-returns-7 : (t : ℕ) → unit-lts.Need-returns-7 (
   is-reads.Asked,
@@ -1090,7 +1267,9 @@ unit-returns-7 : (t : ℕ) → unit-lts.Need-returns-7 (
   missing-reads.Asked,
   missing-reads.Learnt,
 ) (unit-at t) unit.Post
-unit-returns-7 t c = missing-read ((c .before .before .before .before .before .before .before .before .args) .text .now) ((c .before .before .before .before .before .before .before .before .args) .allowed) ((c .before .before .before .before .before .before .before .before .args) .at) (out ((c .before .before .before .before .before .before .before .before .args) .n) ((c .before .before .before .before .before .before .before .before .args) .nodes .now) ((c .before .before .before .before .before .before .before .before .args) .l) ((c .before .before .before .before .before .before .before .before .args) .lits .now)) ((c .before .before .before .before .before .before .before .before .args) .nodes .now) ((c .before .before .before .before .before .before .before .before .args) .lits .now) ((c .missing) .result) ((c .missing) .ensures)
+unit-returns-7 t c =
+    let args = c .before .before .before .before .before .before .before .before .args in
+    missing-read (args .text .now) (args .allowed) (args .at) (out (args .n) (args .nodes .now) (args .l) (args .lits .now)) (args .nodes .now) (args .lits .now) ((c .missing) .result) ((c .missing) .ensures)
 
 pub +alternation+sequence+unit-spec : {M : Type 1} → statement M
 +alternation+sequence+unit-spec = close μ-alternation μ-sequence μ-unit (λ t. alternation-lts.spec (

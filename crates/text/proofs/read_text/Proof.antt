@@ -20,7 +20,10 @@ same-length-2 : tie.Need-same-length-2
 same-length-2 c = search needs
 
 returns : tie.Need-returns
-returns c = text-up ((c .before .before .before .before .before .before .before .before .before .before .before .before .args) .text .now) ((c .before .before .before .before .before .before .before .before .before .before .before .before .args) .nodes .now) ((c .before .before .before .before .before .before .alternation) .last .1 .0) ((c .before .before .before .before .before .before .before .before .before .before .before .before .args) .lits .now) ((c .before .before .before .before .before .before .alternation) .last .1 .1 .0) ((c .before .before .before .before .before .before .alternation) .result) ((c .before .before .before .before .before .before .alternation) .ensures) ((c .enum-told) .given .0 .0) ((c .enum-told) .given .1)
+returns c =
+    let alternation = c .before .before .before .before .before .before .alternation in
+    let args = c .before .before .before .before .before .before .before .before .before .before .before .before .args in
+    text-up (args .text .now) (args .nodes .now) (alternation .last .1 .0) (args .lits .now) (alternation .last .1 .1 .0) (alternation .result) (alternation .ensures) ((c .enum-told) .given .0 .0) ((c .enum-told) .given .1)
 
 is-requires : tie.Need-is-requires
 is-requires c κs = search needs
@@ -35,7 +38,12 @@ same-length-4 : tie.Need-same-length-4
 same-length-4 c = search needs
 
 returns-2 : tie.Need-returns-2
-returns-2 c = rw ((c .refused) .ensures) (text-closed ((c .before .before .before .before .before .before .before .before .before .before .before .before .before .before .before .before .args) .text .now) ((c .before .before .before .before .before .before .before .before .before .before .before .before .before .before .before .before .args) .nodes .now) ((c .before .before .before .before .before .before .before .before .before .before .alternation) .last .1 .0) ((c .before .before .before .before .before .before .before .before .before .before .before .before .before .before .before .before .args) .lits .now) ((c .before .before .before .before .before .before .before .before .before .before .alternation) .last .1 .1 .0) ((c .before .before .before .before .before .before .before .before .before .before .alternation) .result) ((c .before .before .before .before .before .before .before .before .before .before .alternation) .ensures) ((c .before .before .before .before .r) .given .0 .0) ((c .before .before .before .before .r) .given .0 .1 .0) ((c .before .before .before .before .r) .given .0 .1 .1 .0) ((c .before .before .before .before .r) .given .1) (sym ((c .before .before .is) .ensures) ∙ (c .before .if1) .taken))
+returns-2 c =
+    let is = c .before .before .is in
+    let r = c .before .before .before .before .r in
+    let alternation = c .before .before .before .before .before .before .before .before .before .before .alternation in
+    let args = c .before .before .before .before .before .before .before .before .before .before .before .before .before .before .before .before .args in
+    rw ((c .refused) .ensures) (text-closed (args .text .now) (args .nodes .now) (alternation .last .1 .0) (args .lits .now) (alternation .last .1 .1 .0) (alternation .result) (alternation .ensures) (r .given .0 .0) (r .given .0 .1 .0) (r .given .0 .1 .1 .0) (r .given .1) (sym (is .ensures) ∙ (c .before .if1) .taken))
 
 same-length-5 : tie.Need-same-length-5
 same-length-5 c = search needs
@@ -44,7 +52,12 @@ same-length-6 : tie.Need-same-length-6
 same-length-6 c = search needs
 
 returns-3 : tie.Need-returns-3
-returns-3 c = text-done ((c .before .before .before .before .before .before .before .before .before .before .before .before .before .before .before .args) .text .now) ((c .before .before .before .before .before .before .before .before .before .before .before .before .before .before .before .args) .nodes .now) ((c .before .before .before .before .before .before .before .before .before .alternation) .last .1 .0) ((c .before .before .before .before .before .before .before .before .before .before .before .before .before .before .before .args) .lits .now) ((c .before .before .before .before .before .before .before .before .before .alternation) .last .1 .1 .0) ((c .before .before .before .before .before .before .before .before .before .alternation) .result) ((c .before .before .before .before .before .before .before .before .before .alternation) .ensures) ((c .before .before .before .r) .given .0 .0) ((c .before .before .before .r) .given .0 .1 .0) ((c .before .before .before .r) .given .0 .1 .1 .0) ((c .before .before .before .r) .given .1) ((c .before .before .before .before .before .before .before .before .before .before .before .before .before .before .before .pre)) (sym ((c .before .is) .ensures) ∙ (c .if1) .left)
+returns-3 c =
+    let r = c .before .before .before .r in
+    let alternation = c .before .before .before .before .before .before .before .before .before .alternation in
+    let args = c .before .before .before .before .before .before .before .before .before .before .before .before .before .before .before .args in
+    let pre = c .before .before .before .before .before .before .before .before .before .before .before .before .before .before .before .pre in
+    text-done (args .text .now) (args .nodes .now) (alternation .last .1 .0) (args .lits .now) (alternation .last .1 .1 .0) (alternation .result) (alternation .ensures) (r .given .0 .0) (r .given .0 .1 .0) (r .given .0 .1 .1 .0) (r .given .1) (pre) (sym ((c .before .is) .ensures) ∙ (c .if1) .left)
 
 pub read-text-spec : {M : Type 1} → statement M
 read-text-spec =
