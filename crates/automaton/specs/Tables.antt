@@ -1,6 +1,6 @@
 -- What the tables of a pattern hold, and how many words they take. Position 0 is the start.
 use mathlib.Core.Path.{_≡_}
-use mathlib.Core.Bool.{_&&_}
+use mathlib.Core.Bool.{Bool, _&&_}
 use mathlib.Core.List.{List}
 use Prim.Native.Nat.{ℕ, _*_, _<_}
 use lib.Dec.{leb}
@@ -20,9 +20,25 @@ byteValues = 256
 abbrev pub letterWords : ℕ
 letterWords = setWords * byteValues
 
--- set p of `follow`: what may come after p; set 0 of `stops`: where a word may end; set b of `letters`: the positions that take the byte b
+-- set p of `follow` has what may come after the position p, or at the start where p is 0
+abbrev pub Follows : Pattern → List ℕ → Type 0
+Follows P follow = (p q : ℕ) → has follow p q ≡ step (P .tree) p q
+
+-- set 0 of `stops` has the positions after which a word may end
+abbrev pub Stops : Pattern → List ℕ → Type 0
+Stops P stops = (p : ℕ) → has stops 0 p ≡ stop (P .tree) p
+
+-- q is a position of the pattern, and takes the byte b
+abbrev pub takesAt : Pattern → ℕ → ℕ → Bool
+takesAt P b q = leb 1 q && leb q (size (P .tree)) && P .takes q b
+
+-- set b of `letters` has the positions that take the byte b
+abbrev pub Letters : Pattern → List ℕ → Type 0
+Letters P letters = (b q : ℕ) → has letters b q ≡ takesAt P b q
+
+-- the tables of a pattern, whose positions fit a set
 pub record Tables (P : Pattern) (follow stops letters : List ℕ) : Type 0 where
-  pub steps : (p q : ℕ) → has follow p q ≡ step (P .tree) p q
-  pub ends : (p : ℕ) → has stops 0 p ≡ stop (P .tree) p
-  pub letter : (b q : ℕ) → has letters b q ≡ (leb 1 q && leb q (size (P .tree)) && P .takes q b)
+  pub steps : Follows P follow
+  pub ends : Stops P stops
+  pub letter : Letters P letters
   pub fits : size (P .tree) < setBits

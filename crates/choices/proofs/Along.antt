@@ -13,7 +13,8 @@ use Rattle.language.specs.Follow.{stop}
 use Rattle.language.specs.Search.{okIn}
 use Rattle.language.proofs.Places.{greedy-at}
 use Rattle.bits.specs.Sets.{has, rowHas, LeastFrom}
-use Rattle.rows.specs.Rows.{Follows, readable, rowAt, RowOf}
+use Rattle.automaton.specs.Tables.{Follows}
+use Rattle.rows.specs.Rows.{readable, rowAt, RowOf}
 use Rattle.choices.specs.Moves.{chosen}
 use Rattle.choices.proofs.Picks.{picked-live, first-pick}
 

@@ -17,7 +17,7 @@ use Rattle.language.specs.Search.{reads, okIn}
 use Rattle.language.proofs.Computed.{bounded}
 use Rattle.bits.specs.Sets.{setBits, has}
 use Rattle.bits.proofs.Stores.{has-below}
-use Rattle.rows.specs.Rows.{Follows, Letters}
+use Rattle.automaton.specs.Tables.{Follows, Letters}
 use Rattle.rows.proofs.Live.{T-true}
 
 -- what is no member of any set

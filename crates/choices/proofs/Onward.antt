@@ -8,7 +8,7 @@ use Prim.Native.Nat.{ℕ, zero, suc, _+_, _-_, _<_, _≤_}
 use native.Mathlib.Decide.{decLt, ℕ-discrete}
 use native.Mathlib.Numerals.{add-one}
 use native.Mathlib.Omega.{arith}
-use lib.Dec.{T, ltb, lt→ltb}
+use lib.Dec.{T, lt→ltb}
 use lib.ListN.{length, getD, take, drop, set}
 use lib.Seq.{drop-cons, drop-length, take-take, take-suc-set}
 use Rattle.rules.specs.Limits.{entries}
@@ -18,7 +18,8 @@ use Rattle.language.specs.Follow.{stop}
 use Rattle.language.specs.Search.{pick, next, afresh, okIn, nextReading}
 use Rattle.language.proofs.Places.{next-from, next-here}
 use Rattle.bits.specs.Sets.{has, rowHas, LeastFrom, found, nowhere}
-use Rattle.rows.specs.Rows.{Follows, readable, rowAt, RowOf}
+use Rattle.automaton.specs.Tables.{Follows}
+use Rattle.rows.specs.Rows.{readable, rowAt, RowOf}
 use Rattle.choices.specs.Moves.{chosen}
 use Rattle.choices.proofs.Entries.{entries-are}
 use Rattle.choices.proofs.Picks.{fine, picked-live, later-pick}

@@ -16,7 +16,8 @@ use Rattle.language.proofs.Decides.{and-left, and-right, and-in}
 use Rattle.language.proofs.Search.{Pick, found as picked, nowhere as unpicked, pick-view}
 use Rattle.bits.specs.Sets.{setBits, has, rowHas, LeastFrom, found, nowhere}
 use Rattle.bits.proofs.Stores.{has-below}
-use Rattle.rows.specs.Rows.{Follows, readable, can, Live}
+use Rattle.automaton.specs.Tables.{Follows}
+use Rattle.rows.specs.Rows.{readable, can, Live}
 use Rattle.rows.proofs.Live.{T-true, true-T, choice-to, choice-step, choice-can}
 
 -- the least number of a set is what `pick` gives, where the set is what passes the test

@@ -117,13 +117,13 @@ fn read_lines(text: &mut [u8], name: &mut [u8]) -> Lines {
 }
 
 fn number(answer: u64) -> u64 {
-    answer % 256
+    answer % satchelram::NUMBER_ROOM
 }
 
 fn second(answer: u64) -> u64
     ensures { λ r. ⌜ r < 16777216 ⌝ }
 {
-    answer / 256 % 16777216
+    answer / satchelram::NUMBER_ROOM % satchelram::SECOND_ROOM
 }
 
 fn print(words: &[u8]) {

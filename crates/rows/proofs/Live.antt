@@ -20,7 +20,8 @@ use Rattle.language.proofs.Decides.{and-left, and-right, and-in}
 use Rattle.language.proofs.Search.{Pick, found, nowhere, pick-view, picked}
 use Rattle.bits.specs.Sets.{has, rowHas, share}
 use Rattle.bits.proofs.Shares.{share-in, share-out}
-use Rattle.rows.specs.Rows.{Follows, Stops, Letters, takesAt, readable, can, Live, LastLive, rowAt, RowOf, RowsOf}
+use Rattle.automaton.specs.Tables.{Follows, Stops, Letters, takesAt}
+use Rattle.rows.specs.Rows.{readable, can, Live, LastLive, rowAt, RowOf, RowsOf}
 
 pub T-true : (b : Bool) → b ≡ true → T b
 T-true b e = rw e tt

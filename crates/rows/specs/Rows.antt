@@ -1,32 +1,16 @@
--- The rows of the work area: which positions the row of a place is to hold, and what the tables that they are filled from hold.
+-- The rows of the work area: which positions the row of a place is to hold.
 use mathlib.Core.Path.{_≡_}
 use mathlib.Core.Bool.{Bool, _&&_}
 use mathlib.Core.List.{List, []}
 use Prim.Native.Nat.{ℕ, suc, _*_, _<_}
-use lib.Dec.{leb}
 use lib.ListN.{length, getD, drop}
 use Rattle.rules.specs.Limits.{rowSize}
 use Rattle.language.specs.Tree.{size}
 use Rattle.language.specs.Reading.{Pattern}
-use Rattle.language.specs.Follow.{step, stop}
+use Rattle.language.specs.Follow.{stop}
 use Rattle.language.specs.Search.{live, okIn}
-use Rattle.bits.specs.Sets.{has, rowHas}
-
--- set p of `follow` has what may come after the position p, or at the start where p is 0
-abbrev pub Follows : Pattern → List ℕ → Type 0
-Follows P follow = (p q : ℕ) → has follow p q ≡ step (P .tree) p q
-
--- set 0 of `stops` has the positions after which a word may end
-abbrev pub Stops : Pattern → List ℕ → Type 0
-Stops P stops = (p : ℕ) → has stops 0 p ≡ stop (P .tree) p
-
--- q is a position of the pattern, and takes the byte b
-abbrev pub takesAt : Pattern → ℕ → ℕ → Bool
-takesAt P b q = leb 1 q && leb q (size (P .tree)) && P .takes q b
-
--- set b of `letters` has the positions that take the byte b
-abbrev pub Letters : Pattern → List ℕ → Type 0
-Letters P letters = (b q : ℕ) → has letters b q ≡ takesAt P b q
+use Rattle.bits.specs.Sets.{rowHas}
+use Rattle.automaton.specs.Tables.{takesAt}
 
 -- after p, the bytes can be read
 abbrev pub readable : Pattern → List ℕ → ℕ → Bool

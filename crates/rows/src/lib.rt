@@ -8,7 +8,8 @@ ghost use Rattle.language.specs.Reading.{Pattern};
 ghost use Rattle.language.specs.Search.{accepts};
 ghost use Rattle.bits.specs.Sets.{setWords, setBits, setBytes};
 ghost use Rattle.automaton.specs.Tables.{byteValues, followWords, letterWords};
-ghost use Rattle.rows.specs.Rows.{Follows, Stops, Letters, Live, LastLive, rowAt, RowsOf};
+ghost use Rattle.automaton.specs.Tables.{Follows, Stops, Letters};
+ghost use Rattle.rows.specs.Rows.{Live, LastLive, rowAt, RowsOf};
 use bits::SET_WORDS;
 use rules::ROW_SIZE;
 

@@ -7,11 +7,16 @@ ghost use Rattle.reader.specs.Outcome.{AcceptCall, FirstCall, NextCall, CheckCa
 ghost use Rattle.satchelram.specs.Packing.{packed, numberRoom, secondRoom};
 ghost use Rattle.satchelram.specs.Exported.{sheetEndIn, endIn, Exports};
 
+// Room for the number, and for the second after it (docs/PACKING.md).
+pub const NUMBER_ROOM: u64 = 256;
+
+pub const SECOND_ROOM: u64 = 16777216;
+
 fn pack(number: u64, second: u64) -> u64
     requires { ⌜ (number < numberRoom) × (second < secondRoom) ⌝ }
     ensures { λ r. ⌜ r ≡ packed number second 0 ⌝ }
 {
-    number + 256 * second
+    number + NUMBER_ROOM * second
 }
 
 // Makes a sheet of an expression text: 0 with the sheet's length, or a refusal with its place.

@@ -10,10 +10,7 @@ ghost use Rattle.sheet.specs.Nodes.{nodeOf, highestNode, arity, isLeaf};
 ghost use Rattle.sheet.specs.Refusals.{anyOf, nodeGrounds, sheetRefusal};
 ghost use Rattle.sheet.specs.Answer.{refusalOf};
 
-// The first byte of every sheet of this form, and the highest node byte.
-const FORM: u8 = 1;
-
-const HIGHEST_NODE: u8 = 4;
+const HIGHEST_NODE: u8 = rules::STAR_NODE;
 
 // Accepted, or why not; specs/Answer.antt gives the numbers.
 pub enum SheetAnswer {
@@ -141,7 +138,7 @@ pub fn test(sheet: &[u8]) -> SheetAnswer
     if size == 0 {
         return SheetAnswer::OtherForm;
     }
-    if sheet[0] != FORM {
+    if sheet[0] != rules::FORM {
         return SheetAnswer::OtherForm;
     }
     if size < 2 {

@@ -1,7 +1,8 @@
 use borrow.Author.Needs.{needs}
 use Rattle.choices.proofs.Along.{Along, along-turn, along-end}
 use Rattle.choices.specs.Moves.{chosen}
-use Rattle.rows.specs.Rows.{Follows, RowsOf, readable}
+use Rattle.automaton.specs.Tables.{Follows}
+use Rattle.rows.specs.Rows.{RowsOf, readable}
 use Rattle.bits.specs.Sets.{setBits}
 use Rattle.language.specs.Reading.{Pattern}
 use lib.Seq.{drop-set-lt}

@@ -1,7 +1,7 @@
 use borrow.Author.Needs.{needs}
 use Rattle.choices.proofs.Checked.{ok-is, left, left-turn, left-off, left-end}
 use Rattle.choices.proofs.Entries.{entries-length, entry-is}
-use Rattle.rows.specs.Rows.{Follows, Letters}
+use Rattle.automaton.specs.Tables.{Follows, Letters}
 use Rattle.bits.specs.Sets.{setBits}
 use Rattle.language.specs.Reading.{Pattern}
 use Rattle.language.specs.Local.{Numbered}

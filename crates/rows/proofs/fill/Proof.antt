@@ -1,6 +1,7 @@
 use borrow.Author.Needs.{needs}
 use Rattle.rows.proofs.Live.{RowsFrom, rows-start, rows-turn, row-later}
-use Rattle.rows.specs.Rows.{Follows, Stops, Letters, rowAt}
+use Rattle.automaton.specs.Tables.{Follows, Stops, Letters}
+use Rattle.rows.specs.Rows.{rowAt}
 use Rattle.language.specs.Reading.{Pattern}
 use lib.ListN.{length}
 use native.Mathlib.Omega.{arith}
