@@ -1,14 +1,15 @@
 -- The table of letters, position after position, and the finished tables.
 use mathlib.Core.Path.{_≡_, refl, sym, _∙_}
 use mathlib.Core.Logic.{by-cases}
-use mathlib.Core.Bool.{cond, _||_, _&&_, and-true, and-false, or-false}
+use mathlib.Core.Bool.{Bool, cond, _||_, _&&_, and-true, and-false, or-false}
 use mathlib.Core.Option.{none, some}
 use mathlib.Core.List.{List, [], _∷_}
-use Prim.Native.Nat.{ℕ, zero, suc, _+_, _<_}
+use Prim.Native.Nat.{ℕ, zero, suc, _+_, _<_, _≤_}
 use native.Mathlib.Decide.{decLt, ℕ-discrete}
 use native.Mathlib.Omega.{arith}
 use lib.Dec.{eqb, leb, eqb·suc-zero}
-use borrow.Author.Tests.{eq-eqb, ne-eqb, le-leb, lt-leb}
+use borrow.Author.Tests.{eq-eqb, ne-eqb, le-leb, lt-leb, lt-ltb, le-ltb}
+use Rattle.rules.specs.Limits.{lowestByte, highestByte}
 use Rattle.rules.proofs.Refusal.{some-eq}
 use Rattle.language.specs.Tree.{size}
 use Rattle.language.specs.Reading.{Pattern}
@@ -16,9 +17,9 @@ use Rattle.language.specs.Follow.{follow, step}
 use Rattle.sheet.specs.Layout.{leafCount}
 use Rattle.sheet.specs.Refusals.{sheetRefusal}
 use Rattle.sheet.specs.Stands.{standsFor, literal}
-use Rattle.sheet.proofs.Accepted.{conditions, accepted-meant, standing}
+use Rattle.sheet.proofs.Accepted.{conditions, literal-inside, accepted-meant, standing}
 use Rattle.bits.specs.Sets.{has, Empty}
-use Rattle.automaton.specs.Tables.{Tables}
+use Rattle.automaton.specs.Tables.{letterSets, letterOf, takesAt, Tables}
 use Rattle.automaton.specs.Walk.{State, LettersTo}
 use Rattle.automaton.proofs.Steps.{flip-eqb}
 
@@ -44,6 +45,28 @@ letters-turn s xs ys p l e h g b q =
         (λ (h : p < q). rw (lt-leb q p h, lt-leb q (p + 1) (omega arith)) refl)
         (λ (h : ¬ (p < q)). rw (le-leb q p (omega arith), le-leb q (p + 1) (omega arith)) refl)
 
+pub letter-own : (b : ℕ) → b < letterSets → letterOf b ≡ b
+letter-own b h = rw (lt-ltb b letterSets h) refl
+
+pub letter-none : (b : ℕ) → letterSets ≤ b → letterOf b ≡ 0
+letter-none b h = rw (le-ltb b letterSets h) refl
+
+-- a literal is in the set of its own byte and of no other
+letter-same : (x b : ℕ) → lowestByte ≤ x → x ≤ highestByte → eqb x (letterOf b) ≡ eqb x b
+letter-same x b low high =
+    by-cases (decLt b letterSets)
+    (λ (h : b < letterSets). rw (letter-own b h) refl)
+    (λ (h : ¬ (b < letterSets)). rw (letter-none b (omega arith), ne-eqb x 0 (λ e. omega arith), ne-eqb x b (λ e. omega arith)) refl)
+
+at-positions : (n q : ℕ) (u v : Bool) → (1 ≤ q → q ≤ n → u ≡ v) → (leb 1 q && leb q n && u) ≡ (leb 1 q && leb q n && v)
+at-positions n q u v f =
+    by-cases (decLt q 1)
+    (λ (h : q < 1). rw (lt-leb 1 q h) refl)
+    (λ (h : ¬ (q < 1)).
+    by-cases (decLt n q)
+    (λ (k : n < q). rw (lt-leb q n k, and-false) refl)
+    (λ (k : ¬ (n < q)). rw (f (omega arith) (omega arith)) refl))
+
 -- the walk is over: the tree's first positions become the set of the start, its stops stand alone, and the letters are filled
 pub finished : (s n n′ f g stops₀ stops letters : List ℕ) → sheetRefusal s ≡ none → ((P : Pattern) → standsFor s ≡ some P → State n f g (P .tree ∷ []))
     → ((p q : ℕ) → has n′ p q ≡ cond (eqb p 0) (has f 0 q) (has n p q))
@@ -58,5 +81,9 @@ finished s n n′ f g stops₀ stops letters e walked x y l P h = record { steps
     steps zero q = x 0 q ∙ walked P h .held .0 .begins q
     steps (suc p) q = x (suc p) q ∙ rw (eqb·suc-zero p) (walked P h .linked p q ∙ or-false (follow (P .tree) (suc p) q))
 
-    letter : (b q : ℕ) → has letters b q ≡ (leb 1 q && leb q (size (P .tree)) && P .takes q b)
-    letter b q = l b q ∙ rw (sized, standing s P h .test) refl
+    letter : (b q : ℕ) → has letters (letterOf b) q ≡ takesAt P b q
+    letter b q =
+        l (letterOf b) q
+        ∙ at-positions (leafCount s) q (eqb (literal s q) (letterOf b)) (eqb (literal s q) b)
+        (λ low high. let (x, y) = literal-inside s q (conditions s e) low high in letter-same (literal s q) b x y)
+        ∙ rw (sized, standing s P h .test) refl

@@ -1,9 +1,9 @@
 -- What the tables of a pattern hold, and how many words they take. Position 0 is the start.
 use mathlib.Core.Path.{_≡_}
-use mathlib.Core.Bool.{Bool, _&&_}
+use mathlib.Core.Bool.{Bool, cond, _&&_}
 use mathlib.Core.List.{List}
 use Prim.Native.Nat.{ℕ, _*_, _<_}
-use lib.Dec.{leb}
+use lib.Dec.{leb, ltb}
 use Rattle.bits.specs.Sets.{setWords, setBits, has}
 use Rattle.language.specs.Tree.{size}
 use Rattle.language.specs.Reading.{Pattern}
@@ -13,12 +13,16 @@ use Rattle.language.specs.Follow.{step, stop}
 abbrev pub followWords : ℕ
 followWords = setWords * setBits
 
--- a set for each value of a byte
-abbrev pub byteValues : ℕ
-byteValues = 256
+-- a set for each byte below this, which is above every literal
+abbrev pub letterSets : ℕ
+letterSets = 128
 
 abbrev pub letterWords : ℕ
-letterWords = setWords * byteValues
+letterWords = setWords * letterSets
+
+-- the set of a byte; the others share that of 0, which is no literal either
+abbrev pub letterOf : ℕ → ℕ
+letterOf b = cond (ltb b letterSets) b 0
 
 -- set p of `follow` has what may come after the position p, or at the start where p is 0
 abbrev pub Follows : Pattern → List ℕ → Type 0
@@ -32,9 +36,9 @@ Stops P stops = (p : ℕ) → has stops 0 p ≡ stop (P .tree) p
 abbrev pub takesAt : Pattern → ℕ → ℕ → Bool
 takesAt P b q = leb 1 q && leb q (size (P .tree)) && P .takes q b
 
--- set b of `letters` has the positions that take the byte b
+-- the set of the byte b in `letters` has the positions that take b
 abbrev pub Letters : Pattern → List ℕ → Type 0
-Letters P letters = (b q : ℕ) → has letters b q ≡ takesAt P b q
+Letters P letters = (b q : ℕ) → has letters (letterOf b) q ≡ takesAt P b q
 
 -- the tables of a pattern, whose positions fit a set
 pub record Tables (P : Pattern) (follow stops letters : List ℕ) : Type 0 where

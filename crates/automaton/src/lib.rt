@@ -11,16 +11,16 @@ ghost use Rattle.sheet.specs.Layout.{leafCount};
 ghost use Rattle.sheet.specs.Stands.{standsFor};
 ghost use Rattle.sheet.specs.Refusals.{sheetRefusal};
 ghost use Rattle.bits.specs.Sets.{setWords, setBits, Empty};
-ghost use Rattle.automaton.specs.Tables.{followWords, letterWords, Tables};
+ghost use Rattle.automaton.specs.Tables.{followWords, letterSets, letterWords, letterOf, Tables};
 ghost use Rattle.automaton.specs.Walk.{stackWords, Held, State, Reached, Closed, LettersTo};
 
-// The values of a byte.
-const BYTE_VALUES: usize = 256;
+// Above every literal: no larger byte needs a set of its own.
+const LETTER_SETS: usize = 128;
 
-// The words of the tables: a set for each position and the start, and a set for each value of a byte.
+// The words of the tables: a set for each position and the start, and a set for each byte that a literal may be.
 pub const FOLLOW_WORDS: usize = bits::SET_WORDS * bits::SET_BITS;
 
-pub const LETTER_WORDS: usize = bits::SET_WORDS * BYTE_VALUES;
+pub const LETTER_WORDS: usize = bits::SET_WORDS * LETTER_SETS;
 
 // A set for each subtree that may wait.
 const STACK_WORDS: usize = bits::SET_WORDS * rules::WAITING_LIMIT;
@@ -116,6 +116,14 @@ fn wide(b: u8) -> usize
     ensures { λ r. ⌜ (r ≡ b) × (r < 256) ⌝ }
 {
     b as usize
+}
+
+// Which set of the letters has the positions that take a byte.
+pub fn letter(b: u8) -> usize
+    ensures { λ r. ⌜ (r ≡ letterOf b) × (r < letterSets) ⌝ }
+{
+    let at = wide(b);
+    if at < LETTER_SETS { at } else { 0 }
 }
 
 // Reads the node bytes of an accepted sheet; its tree is all that waits at the end.

@@ -17,7 +17,7 @@ use Rattle.language.specs.Search.{reads, okIn}
 use Rattle.language.proofs.Computed.{bounded}
 use Rattle.bits.specs.Sets.{setBits, has}
 use Rattle.bits.proofs.Stores.{has-below}
-use Rattle.automaton.specs.Tables.{Follows, Letters}
+use Rattle.automaton.specs.Tables.{Follows, Letters, letterOf}
 use Rattle.rows.proofs.Live.{T-true}
 
 -- what is no member of any set
@@ -36,7 +36,7 @@ implied true i j false h = and-false (i && j)
 
 module _ (P : Pattern) (n : Numbered 1 (1 + size (P .tree)) (P .tree)) (follow letters : List ℕ) (f : Follows P follow) (l : Letters P letters) where
   -- the tables hold the graph of the pattern
-  pub ok-is : (p b q : ℕ) → (has follow p q && has letters b q) ≡ okIn P p b q
+  pub ok-is : (p b q : ℕ) → (has follow p q && has letters (letterOf b) q) ≡ okIn P p b q
   ok-is p b q =
       rw (f p q, l b q)
       (implied (step (P .tree) p q) (leb 1 q) (leb q (size (P .tree))) (P .takes q b)

@@ -11,9 +11,9 @@ ghost use Rattle.language.specs.Local.{Numbered};
 ghost use Rattle.language.specs.Reading.{Pattern};
 ghost use Rattle.language.specs.Search.{isReading};
 ghost use Rattle.bits.specs.Sets.{setWords, setBits, has, rowHas, LeastFrom};
-ghost use Rattle.automaton.specs.Tables.{byteValues, followWords, letterWords};
+ghost use Rattle.automaton.specs.Tables.{followWords, letterWords, letterOf};
 ghost use Rattle.automaton.specs.Tables.{Follows, Stops, Letters};
-ghost use Rattle.rows.specs.Rows.{readable, rowAt, RowsOf};
+ghost use Rattle.rows.specs.Rows.{byteValues, readable, rowAt, RowsOf};
 ghost use Rattle.choices.specs.Moves.{chosen, Within, Moved, Advanced};
 use bits::SET_BITS;
 use bits::SET_WORDS;
@@ -66,14 +66,14 @@ fn follows(follow: &[u64], p: Position, q: Position) -> bool
 // Whether q may come after p and takes the byte.
 fn reads_on(follow: &[u64], letters: &[u64], p: Position, byte: u8, q: Position) -> bool
     requires { ⌜ (followWords ≤ length (now follow)) × (letterWords ≤ length (now letters)) × (p .0 < setBits) ⌝ }
-    ensures { λ r. ⌜ r ≡ (has (now (follow .entry)) (p .0) (q .0) && has (now (letters .entry)) byte (q .0)) ⌝ }
+    ensures { λ r. ⌜ r ≡ (has (now (follow .entry)) (p .0) (q .0) && has (now (letters .entry)) (letterOf byte) (q .0)) ⌝ }
     ensures { λ r. ⌜ (r ≡ true → q .0 < setBits) ⌝ }
 {
     if SET_BITS <= q.0 {
         return false;
     }
     if follows(follow, p, q) {
-        return bits::has_at(letters, rows::wide(byte), q.0);
+        return bits::has_at(letters, automaton::letter(byte), q.0);
     }
     false
 }

@@ -20,7 +20,7 @@ use Rattle.language.proofs.Decides.{and-left, and-right, and-in}
 use Rattle.language.proofs.Search.{Pick, found, nowhere, pick-view, picked}
 use Rattle.bits.specs.Sets.{has, rowHas, share}
 use Rattle.bits.proofs.Shares.{share-in, share-out}
-use Rattle.automaton.specs.Tables.{Follows, Stops, Letters, takesAt}
+use Rattle.automaton.specs.Tables.{Follows, Stops, Letters, letterOf, takesAt}
 use Rattle.rows.specs.Rows.{readable, can, Live, LastLive, rowAt, RowOf, RowsOf}
 
 pub T-true : (b : Bool) → b ≡ true → T b
@@ -100,7 +100,7 @@ module _ (P : Pattern) (b : ℕ) (bs : List ℕ) where
   -- a row from the row after it
   pub live-step : (follow letters after kept row rows : List ℕ) (byte : ℕ) → Follows P follow → Letters P letters
       → ((x : ℕ) → has after 0 x ≡ rowHas rows x)
-      → ((x : ℕ) → has kept 0 x ≡ (has letters byte x && share follow x after 0))
+      → ((x : ℕ) → has kept 0 x ≡ (has letters (letterOf byte) x && share follow x after 0))
       → ((x : ℕ) → rowHas row x ≡ has kept 0 x)
       → Live P b bs rows → Live P byte (b ∷ bs) row
   live-step follow letters after kept row rows byte f l a k s old q =
@@ -109,7 +109,7 @@ module _ (P : Pattern) (b : ℕ) (bs : List ℕ) where
 -- the row of the last place
 pub live-last : (P : Pattern) (stops letters copy both row : List ℕ) (byte : ℕ) → Stops P stops → Letters P letters
     → ((p x : ℕ) → has both p x ≡ cond (eqb p 0) (has copy p x && has stops 0 x) (has copy p x))
-    → ((x : ℕ) → has copy 0 x ≡ has letters byte x)
+    → ((x : ℕ) → has copy 0 x ≡ has letters (letterOf byte) x)
     → ((x : ℕ) → rowHas row x ≡ has both 0 x)
     → LastLive P byte row
 live-last P stops letters copy both row byte e l c a s q = s q ∙ c 0 q ∙ rw (a q, l byte q, e q) refl

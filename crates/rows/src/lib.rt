@@ -7,9 +7,9 @@ ghost use Rattle.rules.specs.Limits.{nameLimit, rowSize, areaFor};
 ghost use Rattle.language.specs.Reading.{Pattern};
 ghost use Rattle.language.specs.Search.{accepts};
 ghost use Rattle.bits.specs.Sets.{setWords, setBits, setBytes};
-ghost use Rattle.automaton.specs.Tables.{byteValues, followWords, letterWords};
+ghost use Rattle.automaton.specs.Tables.{followWords, letterWords};
 ghost use Rattle.automaton.specs.Tables.{Follows, Stops, Letters};
-ghost use Rattle.rows.specs.Rows.{Live, LastLive, rowAt, RowsOf};
+ghost use Rattle.rows.specs.Rows.{byteValues, Live, LastLive, rowAt, RowsOf};
 use bits::SET_WORDS;
 use rules::ROW_SIZE;
 
@@ -47,7 +47,7 @@ fn fill_row(row: &mut [u8], byte: u8, follow: &[u64], letters: &[u64])
     let mut after = [0u64; SET_WORDS];
     bits::load_row(&row[ROW_SIZE..], &mut after);
     let mut live = [0u64; SET_WORDS];
-    bits::sift(&mut live, letters, wide(byte), follow, &after);
+    bits::sift(&mut live, letters, automaton::letter(byte), follow, &after);
     bits::store_row(row, &live);
 }
 
@@ -58,7 +58,7 @@ fn fill_last(row: &mut [u8], byte: u8, stops: &[u64], letters: &[u64])
     ensures { λ _. ⌜ drop rowSize (now (row .exit)) ≡ drop rowSize (now (row .entry)) ⌝ }
 {
     let mut live = [0u64; SET_WORDS];
-    bits::copy_set(&mut live, 0, letters, wide(byte));
+    bits::copy_set(&mut live, 0, letters, automaton::letter(byte));
     bits::intersect(&mut live, 0, stops, 0);
     bits::store_row(row, &live);
 }

@@ -1,21 +1,22 @@
 -- What an accepted sheet has: every condition of the list one by one, and a pattern whose tree is numbered 1 to L.
 use mathlib.Core.Path.{_≡_, refl, ap}
-use mathlib.Core.Bool.{false, not, _||_}
+use mathlib.Core.Bool.{Bool, false, not, _||_}
 use mathlib.Core.Option.{Option, none, some}
 use mathlib.Core.List.{List, [], _∷_}
-use Prim.Native.Nat.{ℕ, _+_, _<_, _≤_}
+use Prim.Native.Nat.{ℕ, zero, suc, _+_, _-_, _<_, _≤_}
 use native.Mathlib.Omega.{arith}
 use lib.Dec.{eqb, ltb}
-use lib.ListN.{length}
+use lib.ListN.{length, getD, drop, length-drop}
+use lib.Seq.{getD-take, getD-drop, length-take-le}
 use borrow.Author.Tests.{ltb-false, leb-false, eqb-true, not-false}
-use Rattle.rules.specs.Limits.{leafLimit, outside}
+use Rattle.rules.specs.Limits.{leafLimit, lowestByte, highestByte, outside}
 use Rattle.rules.proofs.Refusal.{some-eq, no-some, passed, not-because}
 use Rattle.language.specs.Tree.{Tree, leaf, empty, cat, alt, star, size}
 use Rattle.language.specs.Reading.{Pattern}
 use Rattle.language.specs.Local.{Numbered}
 use Rattle.sheet.specs.Layout.{formByte, leafCount, leafBytes, nodeBytes, wholeLength, absent}
 use Rattle.sheet.specs.Nodes.{highestNode, tooFew, atEnd, tooMany, leafNodes, build, only}
-use Rattle.sheet.specs.Stands.{takes, withTree, standsFor}
+use Rattle.sheet.specs.Stands.{literal, takes, withTree, standsFor}
 use Rattle.sheet.specs.Refusals.{anyOf, nodesOf, sheetGrounds, sheetRefusal}
 use Rattle.sheet.proofs.Counts.{or-false-left, or-false-right, one-tree, built-numbered}
 
@@ -53,6 +54,22 @@ conditions s e =
       room = not-because (tooMany 0 (nodesOf s)) _ h;
       leaves = is-so (leafNodes (nodesOf s)) (leafCount s) (not-because (not (eqb (leafNodes (nodesOf s)) (leafCount s))) _ i);
     }
+
+any-none : (f : ℕ → Bool) (xs : List ℕ) (i : ℕ) → anyOf f xs ≡ false → i < length xs → f (getD xs i 0) ≡ false
+any-none f [] i e h = absurd (omega arith)
+any-none f (x ∷ xs) zero e h = or-false-left (f x) (anyOf f xs) e
+any-none f (x ∷ xs) (suc i) e h = any-none f xs i (or-false-right (f x) (anyOf f xs) e) (omega arith)
+
+-- the literal of a position is one
+pub literal-inside : (s : List ℕ) (q : ℕ) → Conditions s → 1 ≤ q → q ≤ leafCount s → (lowestByte ≤ literal s q) × (literal s q ≤ highestByte)
+literal-inside s q c l h =
+    let here : 2 + (q - 1) ≡ 1 + q = omega arith in
+    let long = length-take-le (leafCount s) (drop 2 s) (omega (arith, c .counts, length-drop 2 s)) in
+    let in-bytes = any-none outside (leafBytes s) (q - 1) (c .plain) (omega (arith, long)) in
+    let in-sheet = rw (getD-take (leafCount s) (drop 2 s) (q - 1) 0 (omega arith), getD-drop 2 s (q - 1) 0, here) at in-bytes in
+    let low = or-false-left (ltb (literal s q) lowestByte) (ltb highestByte (literal s q)) in-sheet in
+    let high = or-false-right (ltb (literal s q) lowestByte) (ltb highestByte (literal s q)) in-sheet in
+    (ltb-false (literal s q) lowestByte low, ltb-false highestByte (literal s q) high)
 
 -- a numbered tree has as many positions as leaves
 pub numbered-size : (t : Tree ℕ) (lo hi : ℕ) → Numbered lo hi t → hi ≡ lo + size t

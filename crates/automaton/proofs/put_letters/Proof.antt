@@ -1,10 +1,10 @@
 use borrow.Author.Needs.{needs}
 use mathlib.Core.Path.{_≡_, refl}
-use Prim.Native.Nat.{_-_, _≤_}
+use Prim.Native.Nat.{_+_, _-_, _≤_}
 use native.Mathlib.Omega.{arith}
 use lib.ListN.{length}
 use Rattle.sheet.specs.Layout.{leafCount}
-use Rattle.sheet.proofs.Accepted.{conditions}
+use Rattle.sheet.proofs.Accepted.{conditions, literal-inside}
 use Rattle.automaton.specs.Walk.{LettersTo}
 use Rattle.automaton.proofs.Filled.{letters-start, letters-turn}
 use Rattle.automaton.proofs.put_letters.Statement.{statement}
@@ -58,7 +58,10 @@ insert-requires c κs =
     let args = c .before .before .before .before .before .before .before .before .before .args in
     let pre = c .before .before .before .before .before .before .before .before .before .pre in
     let d = conditions (args .sheet .now) (pre .0) in
-    omega (arith, d .few)
+    let l = c .before .before .before .before .loop in
+    let n = c .before .before .before .before .before .wide in
+    let inside = literal-inside (args .sheet .now) (l .p + 1) d (omega arith) (omega (arith, n .ensures .0)) in
+    omega (arith, d .few, c .wide2 .ensures .0, inside .1)
 
 loop-less : tie.Need-loop-less Inv-loop μ-loop
 loop-less c = search needs

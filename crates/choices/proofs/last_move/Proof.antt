@@ -4,8 +4,7 @@ use Rattle.choices.proofs.Picks.{least-above}
 use Rattle.choices.proofs.Entries.{entries-length, entry-is, before-is, before-below}
 use Rattle.choices.specs.declared.Move.the-variants.{Nowhere}
 use Rattle.automaton.specs.Tables.{Follows}
-use Rattle.rows.specs.Rows.{RowsOf, rowAt}
-use Rattle.automaton.specs.Tables.{byteValues}
+use Rattle.rows.specs.Rows.{byteValues, RowsOf, rowAt}
 use Rattle.bits.specs.Sets.{has, rowHas}
 use Rattle.language.specs.Reading.{Pattern}
 use Rattle.rules.specs.Limits.{entries}

@@ -13,15 +13,15 @@ returns c =
 follows-requires : tie.Need-follows-requires
 follows-requires c κs = search needs
 
-wide-requires : tie.Need-wide-requires
-wide-requires c κs = search needs
+letter-requires : tie.Need-letter-requires
+letter-requires c κs = search needs
 
 has-at-requires : tie.Need-has-at-requires
 has-at-requires c κs = search needs
 
 returns-2 : tie.Need-returns-2
 returns-2 c =
-    (rw (← c .before .before .before .follows .ensures, c .before .before .if2 .taken) (c .has-at .ensures ∙ rw (c .before .wide .ensures .0) refl), λ e. c .before .before .before .before .if1 .left)
+    (rw (← c .before .before .before .follows .ensures, c .before .before .if2 .taken) (c .has-at .ensures ∙ rw (c .before .letter .ensures .0) refl), λ e. c .before .before .before .before .if1 .left)
 
 returns-3 : tie.Need-returns-3
 returns-3 c =
@@ -29,4 +29,4 @@ returns-3 c =
 
 pub reads-on-spec : {M : Type 1} → statement M
 reads-on-spec =
-    tie.close (tie.spec returns follows-requires wide-requires has-at-requires returns-2 returns-3)
+    tie.close (tie.spec returns follows-requires letter-requires has-at-requires returns-2 returns-3)

@@ -10,8 +10,8 @@ use Rattle.rows.proofs.fill_last.Tie as tie
 slice-aggregate-copy-set : tie.Need-slice-aggregate-copy-set
 slice-aggregate-copy-set c = search needs
 
-wide-requires : tie.Need-wide-requires
-wide-requires c κs = search needs
+letter-requires : tie.Need-letter-requires
+letter-requires c κs = search needs
 
 copy-set-requires : tie.Need-copy-set-requires
 copy-set-requires c κs = search needs
@@ -36,14 +36,14 @@ returns c =
     let store-row = c .before .before .store-row in
     let intersect = c .before .before .before .before .before .before .intersect in
     let copy-set = c .before .before .before .before .before .before .before .before .before .copy-set in
-    let wide = c .before .before .before .before .before .before .before .before .before .before .wide in
+    let letter = c .before .before .before .before .before .before .before .before .before .before .letter in
     let args = c .before .before .before .before .before .before .before .before .before .before .before .before .before .before .before .args in
     let g = args in
     let a = copy-set in
     let k = intersect in
     let s = store-row in (
       λ P e l.
-          live-last P (g .stops .now) (g .letters .now) (a .last .0) (k .last .0) (s .last .0) (g .byte) e l (k .ensures) (λ x. rw (wide .ensures .0) at (a .ensures 0 x)) (s .ensures .0),
+          live-last P (g .stops .now) (g .letters .now) (a .last .0) (k .last .0) (s .last .0) (g .byte) e l (k .ensures) (λ x. rw (letter .ensures .0) at (a .ensures 0 x)) (s .ensures .0),
       drop-same setBytes rowSize (g .row .now) (s .last .0) (s .kept .0) (omega arith) (s .ensures .1),
     )
 
@@ -52,7 +52,7 @@ fill-last-spec =
     tie.close
     (tie.spec
     slice-aggregate-copy-set
-    wide-requires
+    letter-requires
     copy-set-requires
     slice-aggregate-intersect
     intersect-requires

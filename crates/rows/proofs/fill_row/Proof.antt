@@ -29,8 +29,8 @@ load-row-requires c κs = search needs
 slice-aggregate-sift : tie.Need-slice-aggregate-sift
 slice-aggregate-sift c = search needs
 
-wide-requires : tie.Need-wide-requires
-wide-requires c κs = search needs
+letter-requires : tie.Need-letter-requires
+letter-requires c κs = search needs
 
 slice-aggregate-sift-2 : tie.Need-slice-aggregate-sift-2
 slice-aggregate-sift-2 c = search needs
@@ -51,7 +51,7 @@ returns : tie.Need-returns
 returns c =
     let store-row = c .before .before .store-row in
     let sift = c .before .before .before .before .before .before .sift in
-    let wide = c .before .before .before .before .before .before .before .before .wide in
+    let letter = c .before .before .before .before .before .before .before .before .letter in
     let load-row = c .before .before .before .before .before .before .before .before .before .before .before .load-row in
     let args = c .before .before .before .before .before .before .before .before .before .before .before .before .before .before .before .before .before .before .args in
     let g = args in
@@ -61,7 +61,7 @@ returns c =
       λ P b bs f l old.
           live-step P b bs (g .follow .now) (g .letters .now) (a .last .1 .0) (k .last .0) (s .last .0) (drop rowSize (g .row .now)) (g .byte) f l
           (λ x. a .ensures x ∙ ap (λ (r : List ℕ). rowHas r x) (rest-of (g .row .now) rowSize))
-          (rw (wide .ensures .0) at (k .ensures))
+          (rw (letter .ensures .0) at (k .ensures))
           (s .ensures .0)
           old,
       drop-same setBytes rowSize (g .row .now) (s .last .0) (s .kept .0) (omega arith) (s .ensures .1),
@@ -77,7 +77,7 @@ fill-row-spec =
     slice-aggregate-load-row
     load-row-requires
     slice-aggregate-sift
-    wide-requires
+    letter-requires
     slice-aggregate-sift-2
     sift-requires
     slice-aggregate-store-row
