@@ -10,6 +10,7 @@
  * once before; callgrind counts that function.
  */
 #define _POSIX_C_SOURCE 199309L
+#include "cases.h"
 #include "engine.h"
 
 #include <stdio.h>
@@ -17,13 +18,10 @@
 #include <string.h>
 #include <time.h>
 
-/* 119 leaves: block, strip, camera, flight and exposure with every digit written out. */
-#define DIGIT "(0|1|2|3|4|5|6|7|8|9)"
-static const char exposure[] = "(A|B|C|D|E)" DIGIT "S" DIGIT DIGIT "C" DIGIT DIGIT DIGIT "F" DIGIT DIGIT "E" DIGIT DIGIT DIGIT;
-static const char whole[] = "B3S07C128F21E045";
-static const char dropped[] = "B3S07C12F21E045";
-/* Each leaf by hand: A to E are 1 to 5, the block's digits 6 to 15, S 16, and so on by tens. */
-static const unsigned char reading[] = {2, 9, 16, 17, 34, 37, 39, 50, 66, 68, 71, 80, 89, 90, 104, 115};
+static const char exposure[] = EXPOSURE_119;
+static const char whole[] = WHOLE_119;
+static const char dropped[] = DROPPED_119;
+static const unsigned char reading[] = {READING_119};
 
 static unsigned char positions[NAME_MOST];
 
@@ -118,16 +116,12 @@ static void wild_one(const char *expression, const char *shown, int last)
 static void wild(void)
 {
     static const char *const expressions[] = {"(a|a)*", "(a*)*", "(a|aa)*", "(a|b|ab)*"};
-    char many[2 * LEAVES_MOST + 3] = "(a";
-    for (int leaf = 1; leaf < LEAVES_MOST; leaf++)
-        strcat(many, "|a");
-    strcat(many, ")*");
     for (size_t i = 0; i < sizeof expressions / sizeof expressions[0]; i++) {
         wild_one(expressions[i], expressions[i], 'a');
         wild_one(expressions[i], expressions[i], 'c');
     }
-    wild_one(many, "(a|..120 times..|a)*", 'a');
-    wild_one(many, "(a|..120 times..|a)*", 'c');
+    wild_one(DENSE, DENSE_SHOWN, 'a');
+    wild_one(DENSE, DENSE_SHOWN, 'c');
 }
 
 static void work_once(void)

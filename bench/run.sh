@@ -1,7 +1,7 @@
 #!/usr/bin/env bash
 # bench/run.sh [ARCHIVE_DIR]: counts instructions (callgrind) and times pathological expressions for PCRE2 and RE2, and
-# with ARCHIVE_DIR/libsatchelram.a for our calls, whose stack it measures too. Never a test; RESULTS.md says what is
-# counted and why.
+# with ARCHIVE_DIR/libsatchelram.a for our calls, each of which it also counts by itself and measures the stack of.
+# Never a test; RESULTS.md says what is counted and why.
 # x86-64 only: a count under an emulator or of another build says nothing about the archive.
 set -euo pipefail
 
@@ -28,6 +28,7 @@ if [ -n "${missing:-}" ]; then
     apt-get install -y -qq $missing || stop "could not install$missing"
 fi
 
+valgrind=$(command -v valgrind) || stop "no valgrind"
 out=$(mktemp -d)
 trap 'rm -rf "$out"' EXIT
 flags=(-O2 -Wall -Wextra -Werror -I ../include -I .)
@@ -39,23 +40,50 @@ g++ "${flags[@]}" re2.cc "$out/bench.o" -Wl,-z,now -lre2 -o "$out/re2"
 engines=(pcre2 re2)
 if [ -n "$archive" ]; then
     gcc "${flags[@]}" -std=c99 ours.c "$out/bench.o" "$archive" -Wl,-z,now -o "$out/ours"
+    gcc "${flags[@]}" -std=c99 calls.c lent.c "$archive" -Wl,-z,now -o "$out/calls"
+    gcc "${flags[@]}" -std=gnu99 stack.c lent.c "$archive" -Wl,-z,now -o "$out/stack"
     engines=(ours pcre2 re2)
 fi
 
-# count ENGINE WORK [plain]: instructions of one `measured_..` call
+# count FUNCTION PROGRAM WORD..: instructions of the one time that the function runs in the program. The environment is
+# empty, since its length moves the stack, and with it a count by a few instructions. A count that fails stops the
+# script if it is assigned to a variable, but not as an argument.
 count() {
-    local function=measured_read log=$out/$1.$2.log
-    [ "$2" != once ] || function=measured_once
-    valgrind --tool=callgrind --callgrind-out-file=/dev/null --toggle-collect="$function" "$out/$1" "${@:2}" >"$log" 2>&1 ||
-        stop "$1 $2 failed: $(cat "$log")"
-    sed -n 's/.*Collected : \([0-9]*\).*/\1/p' "$log"
+    local log=$out/log figure
+    env -i "$valgrind" --tool=callgrind --callgrind-out-file=/dev/null --toggle-collect="$1" "$out/$2" "${@:3}" >"$log" 2>&1 ||
+        stop "${*:2} failed: $(cat "$log")"
+    figure=$(sed -n 's/.*Collected : \([0-9]*\).*/\1/p' "$log")
+    [[ $figure =~ ^[1-9][0-9]*$ ]] || stop "${*:2}: callgrind saw no $1: $(cat "$log")"
+    echo "$figure"
 }
 
 # line TITLE ENGINE [plain]
 line() {
-    local title=$1 engine=$2
-    shift 2
-    printf '%-24s %10s %10s %10s\n' "$title" "$(count "$engine" once "$@")" "$(count "$engine" name "$@")" "$(count "$engine" dropped "$@")"
+    local title=$1 once name dropped
+    once=$(count measured_once "$2" once "${@:3}")
+    name=$(count measured_read "$2" name "${@:3}")
+    dropped=$(count measured_read "$2" dropped "${@:3}")
+    printf '%-24s %10s %10s %10s\n' "$title" "$once" "$name" "$dropped"
+}
+
+# row TITLE FIGURE..: a line of the matrix
+row() {
+    printf '%-32s %10s %10s %10s %10s %10s\n' "$@"
+}
+
+# matrix: a line for each row of calls.c, a column for each call
+matrix() {
+    local calls=(sheet accept first next check) titles title call figure figures
+    titles=$("$out/calls" rows)
+    row "" "${calls[@]}"
+    while IFS= read -r title; do
+        figures=()
+        for call in "${calls[@]}"; do
+            figure=$(count measured calls "$title" "$call" </dev/null)
+            figures+=("$figure")
+        done
+        row "$title" "${figures[@]}"
+    done <<<"$titles"
 }
 
 echo "instructions, 119 leaves, 16-byte name"
@@ -66,6 +94,11 @@ line "RE2, positions" re2
 line "PCRE2, yes or no" pcre2 plain
 line "RE2, yes or no" re2 plain
 echo
+if [ -n "$archive" ]; then
+    echo "instructions of each call, satchelram"
+    matrix
+    echo
+fi
 echo "pathological expressions, a 255-byte name, microseconds (least of 20)"
 for engine in "${engines[@]}"; do
     "$out/$engine" wild
@@ -73,6 +106,5 @@ done
 if [ -n "$archive" ]; then
     echo
     echo "stack of a call on large inputs"
-    gcc "${flags[@]}" -std=gnu99 stack.c "$archive" -Wl,-z,now -o "$out/stack"
     "$out/stack"
 fi

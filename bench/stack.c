@@ -1,6 +1,7 @@
 /* Stack that each call uses on large inputs: the call runs on a painted stack of its own, and the paint that is left is
    counted. The header promises 24 KiB for the sheet call and 16 KiB for the others. */
-#include <satchelram.h>
+#include "cases.h"
+#include "lent.h"
 
 #include <stdio.h>
 #include <stdlib.h>
@@ -12,38 +13,10 @@ enum { STACK = 1 << 18, PAINT = 0xA5, DEEP = SATCHELRAM_OPEN_MOST };
 static unsigned char stack[STACK];
 static ucontext_t back, there;
 
-static uint8_t text[SATCHELRAM_TEXT_MOST], sheet[SATCHELRAM_SHEET_MOST], name[SATCHELRAM_NAME_MOST];
-static uint8_t mapping[SATCHELRAM_NAME_MOST], work[SATCHELRAM_WORK_MOST];
-static size_t text_length, sheet_length;
-static uint64_t answer;
+static char deep[5 * DEEP + 2];
 
 static void nothing(void)
 {
-}
-
-static void make(void)
-{
-    answer = satchelram_sheet(text, text_length, sheet, sizeof sheet);
-}
-
-static void accept(void)
-{
-    answer = satchelram_accept(sheet, sheet_length, name, sizeof name, work, sizeof work);
-}
-
-static void first(void)
-{
-    answer = satchelram_first(sheet, sheet_length, name, sizeof name, mapping, sizeof mapping, work, sizeof work);
-}
-
-static void next(void)
-{
-    answer = satchelram_next(sheet, sheet_length, name, sizeof name, mapping, sizeof mapping, work, sizeof work);
-}
-
-static void check(void)
-{
-    answer = satchelram_check(sheet, sheet_length, name, sizeof name, mapping, sizeof mapping, work, sizeof work);
 }
 
 static size_t used_by(void (*call)(void))
@@ -74,42 +47,26 @@ static void report(const char *what, void (*call)(void))
 }
 
 /* Parentheses as deep as they may be, with an alternation of sequences at each level. */
-static void nested(void)
+static void nest(void)
 {
-    text_length = 0;
-    for (int level = 0; level < DEEP; level++) {
-        memcpy(text + text_length, "a|a(", 4);
-        text_length += 4;
-    }
-    text[text_length++] = 'a';
-    memset(text + text_length, ')', DEEP);
-    text_length += DEEP;
-}
-
-/* A starred union of as many leaves as there may be. */
-static void wide(void)
-{
-    text_length = 0;
-    for (int leaf = 0; leaf < SATCHELRAM_LEAVES_MOST; leaf++) {
-        text[text_length++] = leaf == 0 ? '(' : '|';
-        text[text_length++] = 'a';
-    }
-    text[text_length++] = ')';
-    text[text_length++] = '*';
+    for (int level = 0; level < DEEP; level++)
+        strcat(deep, "a|a(");
+    strcat(deep, "a");
+    memset(deep + strlen(deep), ')', DEEP);
 }
 
 int main(void)
 {
-    nested();
-    report("sheet", make);
-    wide();
-    make();
+    nest();
+    lend(deep, "");
+    report("sheet", call_sheet);
+    lend(DENSE, LONGEST);
+    call_sheet();
     sheet_length = satchelram_second(answer);
-    memset(name, 'a', sizeof name);
-    report("accept", accept);
-    report("first", first);
-    report("next", next);
+    report("accept", call_accept);
+    report("first", call_first);
+    report("next", call_next);
     memset(mapping, 1, sizeof mapping);
-    report("check", check);
+    report("check", call_check);
     return 0;
 }
