@@ -1,12 +1,11 @@
 // The stored form of an expression: the test of a sheet.
 ghost use mathlib.Core.Path.{_≡_};
-ghost use mathlib.Core.Bool.{_||_};
 ghost use mathlib.Core.List.{map};
 ghost use Prim.Native.Nat.{_<_};
 ghost use lib.Dec.{ltb};
-ghost use Rattle.rules.specs.Limits.{waitingLimit, outside};
+ghost use Rattle.rules.specs.Limits.{outside};
 ghost use Rattle.rules.specs.Refusal.{firstOf};
-ghost use Rattle.sheet.specs.Nodes.{nodeOf, highestNode, arity, isLeaf};
+ghost use Rattle.sheet.specs.Nodes.{nodeOf, highestNode, isLeaf};
 ghost use Rattle.sheet.specs.Refusals.{anyOf, nodeGrounds, sheetRefusal};
 ghost use Rattle.sheet.specs.Answer.{refusalOf};
 
@@ -34,30 +33,29 @@ fn is_outside(b: u8) -> bool
     rules::HIGHEST_BYTE < b
 }
 
+// This loop and the next go to the end whatever they find, so that the compiler compares many bytes at once.
 fn any_outside(literals: &[u8]) -> bool
     ensures { λ r. ⌜ r ≡ anyOf outside (now (literals .entry)) ⌝ }
 {
+    let mut found = false;
     let mut i = 0;
     while i < literals.len() {
-        if is_outside(literals[i]) {
-            return true;
-        }
+        found = found | is_outside(literals[i]);
         i += 1;
     }
-    false
+    found
 }
 
 fn any_above(nodes: &[u8]) -> bool
     ensures { λ r. ⌜ r ≡ anyOf (ltb highestNode) (now (nodes .entry)) ⌝ }
 {
+    let mut found = false;
     let mut i = 0;
     while i < nodes.len() {
-        if HIGHEST_NODE < nodes[i] {
-            return true;
-        }
+        found = found | (HIGHEST_NODE < nodes[i]);
         i += 1;
     }
-    false
+    found
 }
 
 // A byte as a length.
@@ -67,22 +65,9 @@ fn wide(b: u8) -> usize
     b as usize
 }
 
-// How many waiting subtrees a node takes.
-fn arity_of(node: u8) -> usize
-    ensures { λ r. ⌜ r ≡ arity (nodeOf node) ⌝ }
-{
-    if node < 2 {
-        return 0;
-    }
-    if node < HIGHEST_NODE {
-        return 2;
-    }
-    1
-}
-
 // 1 for a leaf, else 0.
 fn leaf_of(node: u8) -> usize
-    ensures { λ r. ⌜ r ≡ isLeaf (nodeOf node) ⌝ }
+    ensures { λ r. ⌜ (r ≡ isLeaf (nodeOf node)) × (r < 2) ⌝ }
 {
     if node == 0 {
         return 1;
@@ -90,38 +75,36 @@ fn leaf_of(node: u8) -> usize
     0
 }
 
-// Whether too many wait now, or did before.
-fn many_waiting(before: bool, waiting: usize) -> bool
-    ensures { λ r. ⌜ r ≡ (before || ltb waitingLimit waiting) ⌝ }
-{
-    if before {
-        return true;
-    }
-    rules::WAITING_LIMIT < waiting
-}
-
-// 24 to 27 in one walk that counts the subtrees waiting.
+// 24 to 27 in one walk that counts the subtrees waiting. Only a leaf or an empty word adds one, so only there can the most that waited rise.
 fn test_nodes(nodes: &[u8], literals: usize) -> SheetAnswer
     ensures { λ r. ⌜ refusalOf r ≡ firstOf (nodeGrounds literals (map nodeOf (now (nodes .entry)))) ⌝ }
 {
     let mut waiting: usize = 0;
-    let mut many = false;
+    let mut most: usize = 0;
     let mut leaves: usize = 0;
     let mut i = 0;
     while i < nodes.len() {
-        let takes = arity_of(nodes[i]);
-        if waiting < takes {
+        let node = nodes[i];
+        i += 1;
+        if node < rules::CAT_NODE {
+            waiting += 1;
+            leaves += leaf_of(node);
+            if most < waiting {
+                most = waiting;
+            }
+        } else if node < HIGHEST_NODE {
+            if waiting < 2 {
+                return SheetAnswer::FewWaiting;
+            }
+            waiting -= 1;
+        } else if waiting < 1 {
             return SheetAnswer::FewWaiting;
         }
-        waiting = waiting - takes + 1;
-        many = many_waiting(many, waiting);
-        leaves += leaf_of(nodes[i]);
-        i += 1;
     }
     if waiting != 1 {
         return SheetAnswer::NotOneLeft;
     }
-    if many {
+    if rules::WAITING_LIMIT < most {
         return SheetAnswer::ManyWaiting;
     }
     if leaves != literals {
