@@ -10,7 +10,6 @@ use Rattle.rules.specs.Limits.{openLimit, wiped}
 use Rattle.rules.specs.Numbers.{done, longText, shortSheet, strangeRepeat, otherForm, shortWork}
 use Rattle.rules.specs.Refusal.{firstOf, Call, refused, answered}
 use Rattle.rules.proofs.Refusal.{some-eq, no-some}
-use Rattle.rules.specs.Limits.{openLimit}
 use Rattle.language.specs.Tree.{Tree}
 use Rattle.lexer.specs.Tokens.{tokensFrom}
 use Rattle.sheet.specs.Make.{sheetOf}
@@ -22,6 +21,7 @@ use Rattle.text.proofs.Numbers.{text-number}
 use Rattle.text.proofs.Outcome.{sheet-settled, sheet-ends}
 use Rattle.reader.specs.Refusals.{mappingGrounds, acceptGrounds}
 use Rattle.reader.specs.Outcome.{End, refusedWith, cleared, AcceptWent, accepted, notIn, FirstWent, found, absent, NextWent, foundNext, noMore, noReading, CheckWent, right, wrong}
+use Rattle.reader.proofs.Answers.{answer-known}
 use Rattle.reader.proofs.Settled.{accept-settled, accept-ends, first-settled, first-ends, next-settled, next-ends, check-settled, check-ends}
 use Rattle.claims.specs.Demand1.{Definite, NameCall, TextCall, Demand1}
 
@@ -112,4 +112,5 @@ demand-1 =
       check = λ sheet name mapping work.
           name-call (mappingGrounds sheet name mapping work) mapping name work (CheckWent sheet name mapping work) (check-answers sheet name mapping work)
           (record { one = check-ends sheet name mapping work; same = check-settled sheet name mapping work });
+      apart = answer-known;
     }

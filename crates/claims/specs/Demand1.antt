@@ -14,6 +14,8 @@ use Rattle.sheet.specs.Make.{sheetOf}
 use Rattle.text.specs.Refusals.{at, textRefusal}
 use Rattle.text.specs.Outcome.{SheetEnd, SheetCall, TreeOfText}
 use Rattle.reader.specs.Refusals.{mappingGrounds, acceptGrounds}
+use Rattle.reader.specs.Answer.{numberOf}
+use Rattle.reader.specs.declared.Answer.{Answer}
 use Rattle.reader.specs.Outcome.{End, cleared, AcceptCall, FirstCall, NextCall, CheckCall}
 
 -- a definite answer: there is one, and any two are equal
@@ -43,3 +45,5 @@ pub record Demand1 : Type 0 where
   pub first : (sheet name mapping work : List ℕ) → NameCall (mappingGrounds sheet name mapping work) (wiped mapping) name work (FirstCall sheet name mapping work)
   pub next : (sheet name mapping work : List ℕ) → NameCall (mappingGrounds sheet name mapping work) (wiped mapping) name work (NextCall sheet name mapping work)
   pub check : (sheet name mapping work : List ℕ) → NameCall (mappingGrounds sheet name mapping work) mapping name work (CheckCall sheet name mapping work)
+  -- no two answers of the name calls share a number, so that a definite number is a definite answer
+  pub apart : (a b : Answer) → numberOf a ≡ numberOf b → a ≡ b

@@ -1,6 +1,5 @@
 -- The tests before a search, in document 01's order.
 use mathlib.Core.Path.{_≡_, refl, sym, _∙_}
-use mathlib.Core.Logic.{inl, inr}
 use mathlib.Core.Option.{Option, none, some}
 use mathlib.Core.List.{List, [], _∷_, _++_}
 use Prim.Native.Nat.{ℕ, _*_, _≤_}
@@ -8,51 +7,25 @@ use native.Mathlib.Omega.{arith}
 use lib.Dec.{ltb}
 use lib.ListN.{length}
 use borrow.Author.Tests.{ltb-false, le-ltb}
-use types.Run.{OneOf}
-use denote.Enum.Declared.{tagOf}
 use Rattle.rules.specs.Limits.{nameLimit, entrySize, areaFor}
 use Rattle.rules.specs.Numbers.{longName, shortMapping, shortWork}
 use Rattle.rules.specs.Refusal.{because, firstOf}
 use Rattle.rules.proofs.Refusal.{passed, not-because, first-part, later-part, front-part}
-use Rattle.sheet.specs.Answer.{refusalOf}
+use Rattle.sheet.specs.Answer.{faultNumber, refusalOf}
 use Rattle.sheet.specs.Refusals.{sheetGrounds, sheetRefusal}
-use Rattle.sheet.specs.declared.SheetAnswer.{SheetAnswer}
-use Rattle.sheet.specs.declared.SheetAnswer.the-variants.{Accepted, OtherForm, OtherLength, ManyLiterals, StrangeEntry, FewWaiting, NotOneLeft, ManyWaiting, OtherLeaves}
-use Rattle.sheet.proofs.SheetAnswer.{the-type}
+use Rattle.sheet.specs.declared.SheetFault.{SheetFault}
+use Rattle.sheet.specs.declared.SheetTest.{SheetTest}
+use Rattle.sheet.specs.declared.SheetTest.the-variants.{Accepted, Refused}
 use Rattle.reader.specs.Refusals.{nameGrounds, mappingGrounds, acceptGrounds}
-use Rattle.reader.specs.Answer.{orDone}
 
--- what is one of these is not 0
-not-zero : {n : ℕ} → OneOf (1 ∷ 2 ∷ 3 ∷ 4 ∷ 5 ∷ 6 ∷ 7 ∷ 8 ∷ []) n → n ≡ 0 → ⊥
-not-zero (inl e) z = omega arith
-not-zero (inr (inl e)) z = omega arith
-not-zero (inr (inr (inl e))) z = omega arith
-not-zero (inr (inr (inr (inl e)))) z = omega arith
-not-zero (inr (inr (inr (inr (inl e))))) z = omega arith
-not-zero (inr (inr (inr (inr (inr (inl e)))))) z = omega arith
-not-zero (inr (inr (inr (inr (inr (inr (inl e))))))) z = omega arith
-not-zero (inr (inr (inr (inr (inr (inr (inr e))))))) z = omega arith
-
--- every answer but the first refuses
-refuses : (s : SheetAnswer) → OneOf (1 ∷ 2 ∷ 3 ∷ 4 ∷ 5 ∷ 6 ∷ 7 ∷ 8 ∷ []) (tagOf the-type s) → refusalOf s ≡ some (orDone (refusalOf s))
-refuses Accepted k = absurd (not-zero k refl)
-refuses OtherForm k = refl
-refuses OtherLength k = refl
-refuses ManyLiterals k = refl
-refuses StrangeEntry k = refl
-refuses FewWaiting k = refl
-refuses NotOneLeft k = refl
-refuses ManyWaiting k = refl
-refuses OtherLeaves k = refl
-
-module _ (sheet : List ℕ) (s : SheetAnswer) (gs : List (Option ℕ)) (e : refusalOf s ≡ sheetRefusal sheet) where
+module _ (sheet : List ℕ) (gs : List (Option ℕ)) where
   -- the sheet's own refusal comes first
-  pub sheet-refused : OneOf (1 ∷ 2 ∷ 3 ∷ 4 ∷ 5 ∷ 6 ∷ 7 ∷ 8 ∷ []) (tagOf the-type s) → some (orDone (refusalOf s)) ≡ firstOf (sheetGrounds sheet ++ gs)
-  sheet-refused k = sym (first-part (sheetGrounds sheet) gs (orDone (refusalOf s)) (sym e ∙ refuses s k))
+  pub sheet-refused : (s : SheetTest) (f : SheetFault) → s ≡ Refused f → refusalOf s ≡ sheetRefusal sheet → some (faultNumber f) ≡ firstOf (sheetGrounds sheet ++ gs)
+  sheet-refused s f k e = sym (first-part (sheetGrounds sheet) gs (faultNumber f) (sym e ∙ rw k refl))
 
   -- then the others
-  pub sheet-passed : s ≡ Accepted → (r : Option ℕ) → r ≡ firstOf gs → r ≡ firstOf (sheetGrounds sheet ++ gs)
-  sheet-passed a r f = f ∙ sym (later-part (sheetGrounds sheet) gs (sym e ∙ rw a refl))
+  pub sheet-passed : (s : SheetTest) → s ≡ Accepted → refusalOf s ≡ sheetRefusal sheet → (r : Option ℕ) → r ≡ firstOf gs → r ≡ firstOf (sheetGrounds sheet ++ gs)
+  sheet-passed s a e r f = f ∙ sym (later-part (sheetGrounds sheet) gs (sym e ∙ rw a refl))
 
 -- what holds of a call that passed
 pub record Fit (sheet name work : List ℕ) : Type 0 where

@@ -1,22 +1,16 @@
 -- The number of document 01 for each answer of the name calls, and the end that an answer makes.
-use mathlib.Core.Option.{Option, none, some}
 use mathlib.Core.List.{List}
 use Prim.Native.Nat.{ℕ}
 use Rattle.rules.specs.Numbers.{done, notSo, longName, shortMapping, shortWork, givenNoReading}
-use Rattle.sheet.specs.Answer.{refusalOf}
+use Rattle.sheet.specs.Answer.{faultNumber}
 use Rattle.reader.specs.Outcome.{End}
 use Rattle.reader.specs.declared.Answer.{Answer}
 use Rattle.reader.specs.declared.Answer.the-variants.{Done, NotSo, Sheet, LongName, ShortMapping, ShortWork, GivenNoReading}
 
--- the refusal's number; a sheet that is not refused is done with
-abbrev pub orDone : Option ℕ → ℕ
-orDone none = done
-orDone (some k) = k
-
 abbrev pub numberOf : Answer → ℕ
 numberOf Done = done
 numberOf NotSo = notSo
-numberOf (Sheet s) = orDone (refusalOf s)
+numberOf (Sheet f) = faultNumber f
 numberOf LongName = longName
 numberOf ShortMapping = shortMapping
 numberOf ShortWork = shortWork

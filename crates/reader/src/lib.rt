@@ -9,13 +9,13 @@ ghost use Rattle.rules.specs.Limits.{nameLimit, entrySize, areaFor, entries, wi
 ghost use Rattle.rules.specs.Refusal.{firstOf};
 ghost use Rattle.language.specs.Reading.{Pattern};
 ghost use Rattle.language.specs.Search.{accepts, isReading};
-ghost use Rattle.sheet.specs.Answer.{refusalOf};
+ghost use Rattle.sheet.specs.Answer.{faultNumber};
 ghost use Rattle.sheet.specs.Refusals.{sheetRefusal};
 ghost use Rattle.sheet.specs.Stands.{standsFor};
 ghost use Rattle.rows.specs.Rows.{rowAt};
 ghost use Rattle.reader.specs.Refusals.{nameGrounds, mappingGrounds};
 ghost use Rattle.reader.specs.Outcome.{cleared, given, AcceptCall, FirstCall, NextCall, CheckCall};
-ghost use Rattle.reader.specs.Answer.{orDone, numberOf, endOf};
+ghost use Rattle.reader.specs.Answer.{numberOf, endOf};
 ghost use Rattle.reader.specs.Made.{reasonOf, FirstMade, NextMade, answerOf, keptBy};
 use automaton::FOLLOW_WORDS;
 use automaton::LETTER_WORDS;
@@ -24,13 +24,14 @@ use rows::Place;
 use rows::Position;
 use rules::NAME_LIMIT;
 use rules::ROW_SIZE;
-use sheet::SheetAnswer;
+use sheet::SheetFault;
+use sheet::SheetTest;
 
 // What a name call answers; specs/Answer.antt gives the numbers.
 pub enum Answer {
     Done,
     NotSo,
-    Sheet(SheetAnswer),
+    Sheet(SheetFault),
     LongName,
     ShortMapping,
     ShortWork,
@@ -50,20 +51,19 @@ enum Step {
     NoReading,
 }
 
-// The number for the test of a sheet.
-fn sheet_number(s: SheetAnswer) -> u64
-    ensures { λ r. ⌜ r ≡ orDone (refusalOf s) ⌝ }
+// The number for a fault of the sheet.
+fn sheet_number(f: SheetFault) -> u64
+    ensures { λ r. ⌜ r ≡ faultNumber f ⌝ }
 {
-    match s {
-        SheetAnswer::Accepted => 0,
-        SheetAnswer::OtherForm => 20,
-        SheetAnswer::OtherLength => 21,
-        SheetAnswer::ManyLiterals => 22,
-        SheetAnswer::StrangeEntry => 23,
-        SheetAnswer::FewWaiting => 24,
-        SheetAnswer::NotOneLeft => 25,
-        SheetAnswer::ManyWaiting => 26,
-        SheetAnswer::OtherLeaves => 27,
+    match f {
+        SheetFault::OtherForm => 20,
+        SheetFault::OtherLength => 21,
+        SheetFault::ManyLiterals => 22,
+        SheetFault::StrangeEntry => 23,
+        SheetFault::FewWaiting => 24,
+        SheetFault::NotOneLeft => 25,
+        SheetFault::ManyWaiting => 26,
+        SheetFault::OtherLeaves => 27,
     }
 }
 
@@ -74,7 +74,7 @@ pub fn number(a: Answer) -> u64
     match a {
         Answer::Done => 0,
         Answer::NotSo => 1,
-        Answer::Sheet(s) => sheet_number(s),
+        Answer::Sheet(f) => sheet_number(f),
         Answer::LongName => 30,
         Answer::ShortMapping => 31,
         Answer::ShortWork => 32,
@@ -104,9 +104,9 @@ fn call_test(sheet: &[u8], name: &[u8], mapping: &[u8], work: &[u8]) -> Test
     ensures { λ r. ⌜ reasonOf r ≡ firstOf (mappingGrounds (now (sheet .entry)) (now (name .entry)) (now (mapping .entry)) (now (work .entry))) ⌝ }
 {
     let s = sheet::test(sheet);
-    let SheetAnswer::Accepted = s else {
-        return Test::Refused(Answer::Sheet(s));
-    };
+    if let SheetTest::Refused(f) = s {
+        return Test::Refused(Answer::Sheet(f));
+    }
     name_test(name, mapping, work)
 }
 

@@ -4,18 +4,18 @@ use mathlib.Core.List.{List}
 use Prim.Native.Nat.{ℕ, _<_}
 use native.Mathlib.Omega.{arith}
 use Rattle.rules.specs.Refusal.{refused, answered}
-use Rattle.sheet.specs.declared.SheetAnswer.{SheetAnswer}
-use Rattle.sheet.specs.declared.SheetAnswer.the-variants.{Accepted, OtherForm, OtherLength, ManyLiterals, StrangeEntry, FewWaiting, NotOneLeft, ManyWaiting, OtherLeaves}
-use Rattle.sheet.specs.Answer.{refusalOf}
+use Rattle.sheet.specs.declared.SheetFault.{SheetFault}
+use Rattle.sheet.specs.declared.SheetFault.the-variants.{OtherForm, OtherLength, ManyLiterals, StrangeEntry, FewWaiting, NotOneLeft, ManyWaiting, OtherLeaves}
+use Rattle.sheet.specs.Answer.{faultNumber}
 use Rattle.text.specs.Outcome.{SheetEnd, made, short, SheetCall}
-use Rattle.maker.specs.declared.SheetAnswer.{SheetAnswer as Made}
+use Rattle.maker.specs.declared.SheetAnswer.{SheetAnswer}
 use Rattle.maker.specs.Answer.{sheetEnd}
 use Rattle.text.proofs.Numbers.{text-number}
 use Rattle.text.proofs.Places.{place-small, sheet-small}
 use Rattle.reader.specs.Outcome.{End}
 use Rattle.reader.specs.declared.Answer.{Answer}
 use Rattle.reader.specs.declared.Answer.the-variants.{Done, NotSo, Sheet, LongName, ShortMapping, ShortWork, GivenNoReading}
-use Rattle.reader.specs.Answer.{orDone, numberOf, endOf}
+use Rattle.reader.specs.Answer.{numberOf, endOf}
 use Rattle.satchelram.specs.Packing.{numberRoom, secondRoom, packed, numberIn, secondIn}
 use Rattle.satchelram.specs.Exported.{sheetEndIn, endIn, Exports}
 use Rattle.satchelram.proofs.Packing.{unpacks}
@@ -29,21 +29,20 @@ sheet-fits text buffer s (refused {k = f} e) = record { low = omega (arith, text
 sheet-fits text buffer s (answered e (made {t = t} p h)) = record { low = omega arith; high = omega (arith, sheet-small text t e p) }
 sheet-fits text buffer s (answered e (short {t = t} p h)) = record { low = omega arith; high = omega (arith, sheet-small text t e p) }
 
-sheet-number-small : (a : SheetAnswer) → orDone (refusalOf a) < numberRoom
-sheet-number-small Accepted = omega arith
-sheet-number-small OtherForm = omega arith
-sheet-number-small OtherLength = omega arith
-sheet-number-small ManyLiterals = omega arith
-sheet-number-small StrangeEntry = omega arith
-sheet-number-small FewWaiting = omega arith
-sheet-number-small NotOneLeft = omega arith
-sheet-number-small ManyWaiting = omega arith
-sheet-number-small OtherLeaves = omega arith
+fault-small : (f : SheetFault) → faultNumber f < numberRoom
+fault-small OtherForm = omega arith
+fault-small OtherLength = omega arith
+fault-small ManyLiterals = omega arith
+fault-small StrangeEntry = omega arith
+fault-small FewWaiting = omega arith
+fault-small NotOneLeft = omega arith
+fault-small ManyWaiting = omega arith
+fault-small OtherLeaves = omega arith
 
 pub number-small : (a : Answer) → numberOf a < numberRoom
 number-small Done = omega arith
 number-small NotSo = omega arith
-number-small (Sheet s) = sheet-number-small s
+number-small (Sheet f) = fault-small f
 number-small LongName = omega arith
 number-small ShortMapping = omega arith
 number-small ShortWork = omega arith
@@ -64,7 +63,7 @@ name-exports call a mapping work n answer d e goes =
     (record { low = number-small a; high = omega arith }) (e ∙ ap (λ (k : ℕ). packed k 0 0) d) goes
 
 -- the sheet call's answer: its parts fit, and packed they export it
-module _ (text buffer sheet : List ℕ) (a : Made) (number second : ℕ) (d : sheetEnd a sheet ≡ record { number = number; second = second; sheet = sheet }) (goes : SheetCall text buffer (sheetEnd a sheet)) where
+module _ (text buffer sheet : List ℕ) (a : SheetAnswer) (number second : ℕ) (d : sheetEnd a sheet ≡ record { number = number; second = second; sheet = sheet }) (goes : SheetCall text buffer (sheetEnd a sheet)) where
   told : SheetCall text buffer (record { number = number; second = second; sheet = sheet })
   told = rw d at goes
 

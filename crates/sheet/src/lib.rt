@@ -11,9 +11,8 @@ ghost use Rattle.sheet.specs.Answer.{refusalOf};
 
 const HIGHEST_NODE: u8 = rules::STAR_NODE;
 
-// Accepted, or why not; specs/Answer.antt gives the numbers.
-pub enum SheetAnswer {
-    Accepted,
+// Why a sheet is refused; specs/Answer.antt gives the numbers.
+pub enum SheetFault {
     OtherForm,
     OtherLength,
     ManyLiterals,
@@ -22,6 +21,12 @@ pub enum SheetAnswer {
     NotOneLeft,
     ManyWaiting,
     OtherLeaves,
+}
+
+// What the test of a sheet finds.
+pub enum SheetTest {
+    Accepted,
+    Refused(SheetFault),
 }
 
 fn is_outside(b: u8) -> bool
@@ -76,7 +81,7 @@ fn leaf_of(node: u8) -> usize
 }
 
 // 24 to 27 in one walk that counts the subtrees waiting. Only a leaf or an empty word adds one, so only there can the most that waited rise.
-fn test_nodes(nodes: &[u8], literals: usize) -> SheetAnswer
+fn test_nodes(nodes: &[u8], literals: usize) -> SheetTest
     ensures { λ r. ⌜ refusalOf r ≡ firstOf (nodeGrounds literals (map nodeOf (now (nodes .entry)))) ⌝ }
 {
     let mut waiting: usize = 0;
@@ -94,56 +99,56 @@ fn test_nodes(nodes: &[u8], literals: usize) -> SheetAnswer
             }
         } else if node < HIGHEST_NODE {
             if waiting < 2 {
-                return SheetAnswer::FewWaiting;
+                return SheetTest::Refused(SheetFault::FewWaiting);
             }
             waiting -= 1;
         } else if waiting < 1 {
-            return SheetAnswer::FewWaiting;
+            return SheetTest::Refused(SheetFault::FewWaiting);
         }
     }
     if waiting != 1 {
-        return SheetAnswer::NotOneLeft;
+        return SheetTest::Refused(SheetFault::NotOneLeft);
     }
     if rules::WAITING_LIMIT < most {
-        return SheetAnswer::ManyWaiting;
+        return SheetTest::Refused(SheetFault::ManyWaiting);
     }
     if leaves != literals {
-        return SheetAnswer::OtherLeaves;
+        return SheetTest::Refused(SheetFault::OtherLeaves);
     }
-    SheetAnswer::Accepted
+    SheetTest::Accepted
 }
 
 // Tests any bytes as a sheet: the first refusal of 20 to 27 that holds, or none.
-pub fn test(sheet: &[u8]) -> SheetAnswer
+pub fn test(sheet: &[u8]) -> SheetTest
     ensures { λ r. ⌜ refusalOf r ≡ sheetRefusal (now (sheet .entry)) ⌝ }
 {
     let size = sheet.len();
     if size == 0 {
-        return SheetAnswer::OtherForm;
+        return SheetTest::Refused(SheetFault::OtherForm);
     }
     if sheet[0] != rules::FORM {
-        return SheetAnswer::OtherForm;
+        return SheetTest::Refused(SheetFault::OtherForm);
     }
     if size < 2 {
-        return SheetAnswer::OtherLength;
+        return SheetTest::Refused(SheetFault::OtherLength);
     }
     let literals = wide(sheet[1]);
     let end = 2 + literals;
     if size <= end {
-        return SheetAnswer::OtherLength;
+        return SheetTest::Refused(SheetFault::OtherLength);
     }
     let start = 3 + literals;
     if size != start + wide(sheet[end]) {
-        return SheetAnswer::OtherLength;
+        return SheetTest::Refused(SheetFault::OtherLength);
     }
     if rules::LEAF_LIMIT < literals {
-        return SheetAnswer::ManyLiterals;
+        return SheetTest::Refused(SheetFault::ManyLiterals);
     }
     if any_outside(&sheet[2..end]) {
-        return SheetAnswer::StrangeEntry;
+        return SheetTest::Refused(SheetFault::StrangeEntry);
     }
     if any_above(&sheet[start..]) {
-        return SheetAnswer::StrangeEntry;
+        return SheetTest::Refused(SheetFault::StrangeEntry);
     }
     test_nodes(&sheet[start..], literals)
 }

@@ -7,17 +7,28 @@ use Rattle.reader.proofs.call_test.Tie as tie
 test-requires : tie.Need-test-requires
 test-requires c κs = search needs
 
-enum-told : tie.Need-enum-told
-enum-told c = search needs
+enum-known-s : tie.Need-enum-known-s
+enum-known-s c = search needs
 
 returns : tie.Need-returns
-returns c = sheet-refused (c .before .before .before .before .before .before .args .sheet .now) (c .before .test .result) (nameGrounds (c .before .before .before .before .before .before .args .name .now) (c .before .before .before .before .before .before .args .mapping .now) (c .before .before .before .before .before .before .args .work .now)) (c .before .test .ensures) (c .match .keys2)
+returns c =
+    let g = c .before .before .before .before .before .before .before .before .args in
+    let s = c .before .s .given in
+    let test = c .before .before .before .test in
+    sheet-refused (g .sheet .now) (nameGrounds (g .name .now) (g .mapping .now) (g .work .now)) (test .result) (s .0 .0) (s .1) (test .ensures)
+
+enum-told : tie.Need-enum-told
+enum-told c = search needs
 
 name-test-requires : tie.Need-name-test-requires
 name-test-requires c κs = search needs
 
 returns-2 : tie.Need-returns-2
-returns-2 c = sheet-passed (c .before .before .before .before .before .before .before .before .args .sheet .now) (c .before .before .before .test .result) (nameGrounds (c .before .before .before .before .before .before .before .before .args .name .now) (c .before .before .before .before .before .before .before .before .args .mapping .now) (c .before .before .before .before .before .before .before .before .args .work .now)) (c .before .before .before .test .ensures) (c .before .enum-told .given .1) _ (c .name-test .ensures)
+returns-2 c =
+    let g = c .before .before .before .before .before .before .before .before .args in
+    let test = c .before .before .before .test in
+    sheet-passed (g .sheet .now) (nameGrounds (g .name .now) (g .mapping .now) (g .work .now)) (test .result) (c .before .enum-told .given .1) (test .ensures) _ (c .name-test .ensures)
 
 pub call-test-spec : {M : Type 1} → statement M
-call-test-spec = tie.close (tie.spec test-requires enum-told returns name-test-requires returns-2)
+call-test-spec =
+    tie.close (tie.spec test-requires enum-known-s returns enum-told name-test-requires returns-2)

@@ -1,4 +1,3 @@
-use Prim.Native.Nat.{_-_, _≤_, _*_, _+_}
 use borrow.Author.Needs.{needs}
 use borrow.Author.Tests.{not-true, not-false}
 use lib.ListN.{length}
@@ -10,7 +9,7 @@ use Rattle.text.proofs.Faults.{fails-deep, missing-read}
 use Rattle.text.proofs.Parts.{alt-starts, seq-starts, AltSoFar, SeqSoFar}
 use Rattle.text.proofs.Readers.{alt-up, seq-onward, alt-over, alt-again, alt-begun, seq-up, unit-onward, seq-over, seq-again, seq-begun, void-begun, unit-void, unit-up, inner-onward, group-begun, unit-group, unit-unclosed}
 use Rattle.text.specs.Reads.{out, Begun}
-use Prim.Native.Nat.{ℕ, _<_}
+use Prim.Native.Nat.{ℕ, _+_, _*_, _-_, _<_, _≤_}
 use borrow.Fn.Kinds.{In}
 use borrow.Fn.PlainCycle.{Measures, is, falls, and}
 use Rattle.text.proofs.alternation.Reads as alternation
