@@ -37,6 +37,9 @@
 #define DENSE "(a" HUNDRED("|a") FIFTEEN("|a") "|a|a|a|a)*"
 #define DENSE_SHOWN "(a|..120 times..|a)*"
 
+/* A union of 64 leaves under 128 stars: all 255 nodes, and every star links every leaf to every leaf once more. */
+#define STARRY "(a" FIVE(TEN("|a")) TEN("|a") "|a|a|a)" HUNDRED("*") TEN("**") FIVE("*") "***"
+
 /* The longest name, 255 bytes. */
 #define LONGEST TIMES_254("a") "a"
 
