@@ -1,5 +1,5 @@
 -- The places of tokens lie within the text.
-use mathlib.Core.Bool.{Bool, true, false, _||_}
+use mathlib.Core.Bool.{Bool, true, false, cond, _||_}
 use mathlib.Core.List.{List, [], _∷_}
 use Prim.Native.Nat.{ℕ, zero, suc, _+_, _≤_}
 use native.Mathlib.Omega.{arith}
@@ -7,7 +7,7 @@ use lib.Dec.{eqb}
 use lib.ListN.{length}
 use Rattle.rules.specs.Limits.{outside}
 use Rattle.lexer.specs.Bytes.{bar, asterisk, leftParenthesis, rightParenthesis, backslash, leftBrace, rightBrace, isMark}
-use Rattle.lexer.specs.Tokens.{choose, Token, Placed, placed, Repeat, noRepeat, badRepeat, repeat, repeatAt, One, tok, wrong, literalOf, escapedOf, tokenOf, first, lex, tokensFrom}
+use Rattle.lexer.specs.Tokens.{Token, Placed, placed, Repeat, noRepeat, badRepeat, repeat, repeatAt, One, tok, wrong, literalOf, escapedOf, tokenOf, first, lex, tokensFrom}
 
 -- every place is at most e
 abbrev pub Inside : ℕ → List Placed → Type 0
@@ -19,7 +19,7 @@ data Near (n : ℕ) : One → Type 0 where
   token : {t : Token} {k : ℕ} → Near n (tok t k)
   fault : {k o : ℕ} → o ≤ n → Near n (wrong k o)
 
-pick : {n : ℕ} (c : Bool) {x y : One} → Near n x → Near n y → Near n (choose c x y)
+pick : {n : ℕ} (c : Bool) {x y : One} → Near n x → Near n y → Near n (cond c x y)
 pick true p q = p
 pick false p q = q
 

@@ -1,7 +1,7 @@
 -- The literals of tokens are bytes that may be written, a repeat's first number is at most its second, and a fault is 11 or 19.
 use mathlib.Core.Path.{_≡_, refl}
 use mathlib.Core.Logic.{_⊎_, inl, inr}
-use mathlib.Core.Bool.{Bool, true, false, _&&_, _||_}
+use mathlib.Core.Bool.{Bool, true, false, cond, _&&_, _||_}
 use mathlib.Core.List.{List, [], _∷_}
 use Prim.Native.Nat.{ℕ, zero, suc, _+_, _≤_}
 use native.Mathlib.Omega.{arith}
@@ -11,7 +11,7 @@ use borrow.Author.Tests.{leb-true, eqb-true}
 use Rattle.rules.specs.Limits.{outside}
 use Rattle.rules.specs.Numbers.{strangeByte, strangeRepeat}
 use Rattle.lexer.specs.Bytes.{bar, asterisk, leftParenthesis, rightParenthesis, backslash, leftBrace, rightBrace, comma, isMark}
-use Rattle.lexer.specs.Tokens.{choose, Token, aLiteral, aBar, aStar, anOpen, aClose, aFault, Placed, placed, starts, Number, digits, noNumber, numberAt, Repeat, noRepeat, badRepeat, repeat, closed, counted, repeatAt, One, tok, wrong, literalOf, escapedOf, tokenOf, first, lex, tokensFrom}
+use Rattle.lexer.specs.Tokens.{Token, aLiteral, aBar, aStar, anOpen, aClose, aFault, Placed, placed, starts, Number, digits, noNumber, numberAt, Repeat, noRepeat, badRepeat, repeat, closed, counted, repeatAt, One, tok, wrong, literalOf, escapedOf, tokenOf, first, lex, tokensFrom}
 
 -- a literal is within the range of literal bytes, and repeated rightly
 abbrev pub Literal : Token → Type 0
@@ -50,7 +50,7 @@ closed-rising : (s : List ℕ) (x i : ℕ) (m : Number) → Rising (closed s x i
 closed-rising s x i noNumber = tt
 closed-rising s x i (digits y j) = go (starts (drop (i + 1) s) comma) (starts (drop (i + j + 2) s) rightBrace) (leb x y) refl
   where
-    go : (a b c : Bool) → leb x y ≡ c → Rising (choose (a && (b && c)) (repeat x y (i + j + 3)) badRepeat)
+    go : (a b c : Bool) → leb x y ≡ c → Rising (cond (a && (b && c)) (repeat x y (i + j + 3)) badRepeat)
     go true true true e = leb-true x y e
     go true true false e = tt
     go true false c e = tt
@@ -63,7 +63,7 @@ counted-rising s (digits x i) = closed-rising s x i (numberAt (drop (i + 2) s))
 repeat-rising : (s : List ℕ) → Rising (repeatAt s)
 repeat-rising s = go (starts s leftBrace)
   where
-    go : (c : Bool) → Rising (choose c (counted s (numberAt (drop 1 s))) noRepeat)
+    go : (c : Bool) → Rising (cond c (counted s (numberAt (drop 1 s))) noRepeat)
     go true = counted-rising s (numberAt (drop 1 s))
     go false = tt
 
@@ -81,7 +81,7 @@ escaped-right : (s : List ℕ) → Right (escapedOf s)
 escaped-right [] = fault (inl refl)
 escaped-right (b ∷ s) = go (isMark b) refl
   where
-    go : (c : Bool) → isMark b ≡ c → Right (choose c (literalOf b 1 (repeatAt s)) (wrong strangeByte 0))
+    go : (c : Bool) → isMark b ≡ c → Right (cond c (literalOf b 1 (repeatAt s)) (wrong strangeByte 0))
     go true e = literal-right b 1 (repeatAt s) (mark-inside b e) (repeat-rising s)
     go false e = fault (inl refl)
 
@@ -91,11 +91,11 @@ token-right b s =
     (pick (eqb b leftParenthesis) (token {t = anOpen} tt) (pick (eqb b rightParenthesis) (token {t = aClose} tt)
     (pick (eqb b backslash) (escaped-right s) (pick (eqb b leftBrace || eqb b rightBrace) (fault (inr refl)) (plain (outside b) refl))))))
   where
-    pick : (c : Bool) {x y : One} → Right x → Right y → Right (choose c x y)
+    pick : (c : Bool) {x y : One} → Right x → Right y → Right (cond c x y)
     pick true p q = p
     pick false p q = q
 
-    plain : (c : Bool) → outside b ≡ c → Right (choose c (wrong strangeByte 0) (literalOf b 0 (repeatAt s)))
+    plain : (c : Bool) → outside b ≡ c → Right (cond c (wrong strangeByte 0) (literalOf b 0 (repeatAt s)))
     plain true e = fault (inl refl)
     plain false e = literal-right b 0 (repeatAt s) e (repeat-rising s)
 

@@ -1,7 +1,7 @@
 -- From the byte where a unit other than a parenthesis starts to its token: one law for each answer of the functions that read it.
 use mathlib.Core.Path.{_≡_, refl, ap, sym, _∙_}
 use mathlib.Core.Logic.{by-cases}
-use mathlib.Core.Bool.{Bool, true, false, true≢false, _&&_, _||_, not}
+use mathlib.Core.Bool.{Bool, true, false, cond, true≢false, _&&_, _||_, not}
 use mathlib.Core.List.{List, _∷_}
 use Prim.Native.Nat.{ℕ, _+_, _<_, _≤_}
 use native.Mathlib.Nat.{add-zero}
@@ -17,7 +17,7 @@ use Rattle.lexer.specs.declared.Refusal.{Refusal}
 use Rattle.lexer.specs.declared.Literal.{Literal}
 use Rattle.lexer.specs.declared.Literal.the-variants.{Of, Fault}
 use Rattle.lexer.specs.Bytes.{bar, asterisk, leftParenthesis, rightParenthesis, backslash, leftBrace, rightBrace, isMark}
-use Rattle.lexer.specs.Tokens.{Repeat, noRepeat, badRepeat, repeat, repeatAt, aLiteral, placed, wrong, choose, literalOf, starts, markAt, tokenOf, tokensFrom}
+use Rattle.lexer.specs.Tokens.{Repeat, noRepeat, badRepeat, repeat, repeatAt, aLiteral, placed, wrong, literalOf, starts, markAt, tokenOf, tokensFrom}
 use Rattle.lexer.specs.Places.{startsUnit, unitAt, isPlain, plainAt, refusedAs, literalWith, LiteralFits, Taken, Faulty, LiteralIs}
 use Rattle.lexer.proofs.Front.{and-left, and-right, front-in, front-inside, tokens-token, tokens-wrong}
 
@@ -92,7 +92,7 @@ module _ (t : List ℕ) (at : ℕ) (u : unitAt (drop at t) ≡ true) (p : starts
   module _ (c : getD t at 0 ≡ backslash → ⊥) (d : getD t at 0 ≡ leftBrace → ⊥) (e : getD t at 0 ≡ rightBrace → ⊥) where
     -- past the marks
     past : {v w : Bool} → ltb (getD t at 0) lowestByte ≡ v → ltb highestByte (getD t at 0) ≡ w
-        → tokenOf (getD t at 0) (drop (at + 1) t) ≡ choose (v || w) (wrong strangeByte 0) (literalOf (getD t at 0) 0 (repeatAt (drop (at + 1) t)))
+        → tokenOf (getD t at 0) (drop (at + 1) t) ≡ cond (v || w) (wrong strangeByte 0) (literalOf (getD t at 0) 0 (repeatAt (drop (at + 1) t)))
     past f g =
         rw (here .no-bar, here .no-star, here .no-open, here .no-close, ne-eqb (getD t at 0) backslash c, ne-eqb (getD t at 0) leftBrace d, ne-eqb (getD t at 0) rightBrace e, f, g) refl
 

@@ -1,5 +1,5 @@
 -- From the bytes of an expression to its tokens, each with its place (document 01, "Expressions as text"; faults 11 and 19).
-use mathlib.Core.Bool.{Bool, true, false, _&&_, _||_}
+use mathlib.Core.Bool.{Bool, false, cond, _&&_, _||_}
 use mathlib.Core.List.{List, [], _∷_}
 use Prim.Native.Nat.{ℕ, zero, suc, _+_, _-_, _*_}
 use lib.Dec.{eqb, leb}
@@ -7,10 +7,6 @@ use lib.ListN.{drop, getD}
 use Rattle.rules.specs.Limits.{outside}
 use Rattle.rules.specs.Numbers.{strangeByte, strangeRepeat}
 use Rattle.lexer.specs.Bytes.{bar, asterisk, leftParenthesis, rightParenthesis, backslash, leftBrace, rightBrace, comma, digitZero, isMark, isDigit}
-
-abbrev pub choose : {A : Type 0} → Bool → A → A → A
-choose true a b = a
-choose false a b = b
 
 -- a literal with its repeat {x,y} (alone: 1 to 1), the marks, and what is no token: 11 or 19
 pub data Token : Type 0 where
@@ -45,8 +41,8 @@ value s i = getD s i 0 - digitZero
 
 abbrev pub numberAt : List ℕ → Number
 numberAt s =
-    choose (digitAt s)
-    (choose (digitAt (drop 1 s)) (digits (10 * value s 0 + value s 1) 2) (digits (value s 0) 1))
+    cond (digitAt s)
+    (cond (digitAt (drop 1 s)) (digits (10 * value s 0 + value s 1) 2) (digits (value s 0) 1))
     noNumber
 
 -- after a literal: no brace, a malformed repeat, or {x,y} with x at most y and how many bytes it has
@@ -58,14 +54,14 @@ pub data Repeat : Type 0 where
 abbrev pub closed : List ℕ → ℕ → ℕ → Number → Repeat
 closed s x i noNumber = badRepeat
 closed s x i (digits y j) =
-    choose (starts (drop (i + 1) s) comma && (starts (drop (i + j + 2) s) rightBrace && leb x y)) (repeat x y (i + j + 3)) badRepeat
+    cond (starts (drop (i + 1) s) comma && (starts (drop (i + j + 2) s) rightBrace && leb x y)) (repeat x y (i + j + 3)) badRepeat
 
 abbrev pub counted : List ℕ → Number → Repeat
 counted s noNumber = badRepeat
 counted s (digits x i) = closed s x i (numberAt (drop (i + 2) s))
 
 abbrev pub repeatAt : List ℕ → Repeat
-repeatAt s = choose (starts s leftBrace) (counted s (numberAt (drop 1 s))) noRepeat
+repeatAt s = cond (starts s leftBrace) (counted s (numberAt (drop 1 s))) noRepeat
 
 -- the first token of bytes and how many bytes it has after its first; or a fault's number and how many bytes on it lies
 pub data One : Type 0 where
@@ -80,18 +76,18 @@ literalOf b o (repeat x y n) = tok (aLiteral b x y) (o + n)
 
 -- "A mark is written as a literal by a backslash before it"
 abbrev pub escapedOf : List ℕ → One
-escapedOf s = choose (markAt s) (literalOf (getD s 0 0) 1 (repeatAt (drop 1 s))) (wrong strangeByte 0)
+escapedOf s = cond (markAt s) (literalOf (getD s 0 0) 1 (repeatAt (drop 1 s))) (wrong strangeByte 0)
 
 -- b: the first byte, s: those after it
 abbrev pub tokenOf : ℕ → List ℕ → One
 tokenOf b s =
-    choose (eqb b bar) (tok aBar 0)
-    (choose (eqb b asterisk) (tok aStar 0)
-    (choose (eqb b leftParenthesis) (tok anOpen 0)
-    (choose (eqb b rightParenthesis) (tok aClose 0)
-    (choose (eqb b backslash) (escapedOf s)
-    (choose (eqb b leftBrace || eqb b rightBrace) (wrong strangeRepeat 0)
-    (choose (outside b) (wrong strangeByte 0)
+    cond (eqb b bar) (tok aBar 0)
+    (cond (eqb b asterisk) (tok aStar 0)
+    (cond (eqb b leftParenthesis) (tok anOpen 0)
+    (cond (eqb b rightParenthesis) (tok aClose 0)
+    (cond (eqb b backslash) (escapedOf s)
+    (cond (eqb b leftBrace || eqb b rightBrace) (wrong strangeRepeat 0)
+    (cond (outside b) (wrong strangeByte 0)
     (literalOf b 0 (repeatAt s))))))))
 
 -- the first token at place i, before the rest; nothing is read after a fault

@@ -1,6 +1,6 @@
 -- The walks over tokens: 11 and 19, and where the leaves pass the limit.
 use mathlib.Core.Path.{_≡_, refl, ap, sym, _∙_}
-use mathlib.Core.Bool.{Bool, true, false}
+use mathlib.Core.Bool.{Bool, true, false, cond}
 use mathlib.Core.Option.{none, some}
 use mathlib.Core.List.{List, [], _∷_}
 use Prim.Native.Nat.{ℕ, _+_, _<_, _≤_}
@@ -13,7 +13,7 @@ use Rattle.rules.specs.Numbers.{manyLeaves}
 use Rattle.rules.proofs.Refusal.{some-eq, no-some}
 use Rattle.lexer.specs.declared.Refusal.{Refusal}
 use Rattle.lexer.specs.Bytes.{bar, asterisk, leftParenthesis, rightParenthesis}
-use Rattle.lexer.specs.Tokens.{choose, Placed, placed, aLiteral, aBar, aStar, anOpen, aClose, starts, tokensFrom}
+use Rattle.lexer.specs.Tokens.{Placed, placed, aLiteral, aBar, aStar, anOpen, aClose, starts, tokensFrom}
 use Rattle.lexer.specs.Places.{unitAt, Taken, Faulty}
 use Rattle.lexer.proofs.Front.{front-in, byte-inside, tokens-end, tokens-bar, tokens-star, tokens-open, tokens-close}
 use Rattle.maker.specs.declared.Step.{Step}
@@ -117,7 +117,7 @@ module _ (t : List ℕ) (i n : ℕ) (e : passing n (tokensFrom t i) ≡ passing 
   passes-end h = passes-none (ap (passing n) (tokens-end t i h))
 
   module _ (next y : ℕ) (s : Stepped t i next y) where
-    here : passing n (tokensFrom t i) ≡ choose (ltb leafLimit (n + y)) (some (at i manyLeaves)) (passing (n + y) (tokensFrom t next))
+    here : passing n (tokensFrom t i) ≡ cond (ltb leafLimit (n + y)) (some (at i manyLeaves)) (passing (n + y) (tokensFrom t next))
     here = rw (s .front, s .leaves) refl
 
     pub passes-here : leafLimit < n + y → PassesAt t i

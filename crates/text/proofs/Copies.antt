@@ -1,7 +1,7 @@
 -- What a repeat stores is the postorder and the leaves of its copies.
 use mathlib.Core.Path.{_≡_, refl, ap, sym, _∙_}
 use mathlib.Core.Logic.{by-cases}
-use mathlib.Core.Bool.{Bool, true, false}
+use mathlib.Core.Bool.{Bool, true, false, cond}
 use mathlib.Core.List.{List, [], _∷_, _++_, append-assoc, append-nil}
 use Prim.Native.Nat.{ℕ, zero, suc, _+_, _-_, _<_, _≤_}
 use native.Mathlib.Decide.{decLt}
@@ -11,7 +11,6 @@ use lib.Dec.{ltb}
 use borrow.Author.Tests.{lt-ltb, le-ltb}
 use Rattle.language.specs.Tree.{Tree, leaf, empty, cat, alt}
 use Rattle.sheet.specs.Make.{postorder, leaves}
-use Rattle.lexer.specs.Tokens.{choose}
 use Rattle.emission.specs.Wrote.{copyNodes, copiesFrom, repeatNodes}
 use Rattle.text.specs.Grammar.{catFrom, catAll, copies}
 use Rattle.text.proofs.Made.{copies-leaves}
@@ -23,7 +22,7 @@ repeat-leaves b x y h =
 
 -- the i-th copy, and k copies from it on
 abbrev copyAt : ℕ → ℕ → ℕ → Tree ℕ
-copyAt b x i = choose (ltb i x) (leaf b) (alt (leaf b) empty)
+copyAt b x i = cond (ltb i x) (leaf b) (alt (leaf b) empty)
 
 abbrev copyList : ℕ → ℕ → ℕ → ℕ → List (Tree ℕ)
 copyList b x i zero = []
@@ -52,7 +51,7 @@ copies-list b x y h =
     let e : x - 0 ≡ x = omega arith in
     ap catAll (rw e at (copy-list b x 0 y (omega arith)))
 
-copy-nodes : (b : ℕ) (sure : Bool) → postorder (choose sure (leaf b) (alt (leaf b) empty)) ≡ copyNodes sure
+copy-nodes : (b : ℕ) (sure : Bool) → postorder (cond sure (leaf b) (alt (leaf b) empty)) ≡ copyNodes sure
 copy-nodes b true = refl
 copy-nodes b false = refl
 

@@ -1,6 +1,6 @@
 -- A text that is not refused: its tree has the tokens' leaves and is within the limits, so its sheet is accepted and stands for that tree.
 use mathlib.Core.Path.{_≡_, refl, ap, sym, _∙_}
-use mathlib.Core.Bool.{Bool, true, false}
+use mathlib.Core.Bool.{Bool, true, false, cond}
 use mathlib.Core.Option.{Option, none, some}
 use mathlib.Core.List.{List, [], _∷_, _++_, append-assoc, append-nil}
 use Prim.Native.Nat.{ℕ, zero, suc, _+_, _-_, _≤_}
@@ -12,7 +12,7 @@ use Rattle.rules.specs.Limits.{openLimit, leafLimit, nodeLimit, outside}
 use Rattle.rules.specs.Numbers.{manyLeaves}
 use Rattle.rules.proofs.Refusal.{no-some, passed, not-because}
 use Rattle.language.specs.Tree.{Tree, leaf, empty, cat, alt, size}
-use Rattle.lexer.specs.Tokens.{choose, aBar, aStar, aClose, Placed, placed, tokensFrom}
+use Rattle.lexer.specs.Tokens.{aBar, aStar, aClose, Placed, placed, tokensFrom}
 use Rattle.lexer.proofs.Literals.{Writable, writable}
 use Rattle.sheet.specs.Make.{leaves, postorder, sheetOf}
 use Rattle.sheet.specs.Refusals.{anyOf, sheetRefusal}
@@ -39,7 +39,7 @@ passed-total n [] h e = omega arith
 passed-total n (placed i t ∷ ps) h e = go (ltb leafLimit (n + leavesOf t)) refl (λ k f. passed-total (n + leavesOf t) ps k f) e
   where
     go : (b : Bool) → ltb leafLimit (n + leavesOf t) ≡ b → (n + leavesOf t ≤ leafLimit → passing (n + leavesOf t) ps ≡ none → n + leavesOf t + total ps ≤ leafLimit)
-        → _≡_ {A = Option Fault} (choose b (some (at i manyLeaves)) (passing (n + leavesOf t) ps)) none → n + (leavesOf t + total ps) ≤ leafLimit
+        → _≡_ {A = Option Fault} (cond b (some (at i manyLeaves)) (passing (n + leavesOf t) ps)) none → n + (leavesOf t + total ps) ≤ leafLimit
     go true l rest e = no-some (sym e)
     go false l rest e = omega (arith, rest (ltb-false leafLimit (n + leavesOf t) l) e)
 

@@ -1,7 +1,7 @@
 -- Which numbers refuse a text: 10 to 19, and never 18.
 use mathlib.Core.Path.{_≡_}
 use mathlib.Core.Logic.{inl, inr}
-use mathlib.Core.Bool.{Bool, true, false}
+use mathlib.Core.Bool.{Bool, true, false, cond}
 use mathlib.Core.Option.{Option, none, some}
 use mathlib.Core.List.{List, [], _∷_}
 use Prim.Native.Nat.{ℕ, zero, suc, _+_, _≤_}
@@ -11,7 +11,7 @@ use lib.ListN.{length}
 use Rattle.rules.specs.Limits.{textLimit, openLimit, leafLimit, nodeLimit}
 use Rattle.rules.specs.Numbers.{longText, strangeRepeat, shortSheet, missingOperand, nothingOpen, leftOpen, tooDeep, manyLeaves, manyNodes}
 use Rattle.rules.proofs.Refusal.{Gives, AllGive, because-gives, first-gives}
-use Rattle.lexer.specs.Tokens.{choose, aLiteral, aBar, aStar, anOpen, aClose, aFault, Placed, placed, tokensFrom}
+use Rattle.lexer.specs.Tokens.{aLiteral, aBar, aStar, anOpen, aClose, aFault, Placed, placed, tokensFrom}
 use Rattle.lexer.proofs.Literals.{Literal, Writable, writable}
 use Rattle.sheet.specs.Make.{postorder}
 use Rattle.text.specs.Walk.{Fault, Frame, begin, going, Answer, tree, fault, run, parse}
@@ -66,7 +66,7 @@ passing-numbered : (n : ℕ) (ps : List Placed) → Numbered (passing n ps)
 passing-numbered n [] = tt
 passing-numbered n (placed i t ∷ ps) = go (ltb leafLimit (n + leavesOf t)) (passing-numbered (n + leavesOf t) ps)
   where
-    go : (b : Bool) → Numbered (passing (n + leavesOf t) ps) → Numbered (choose b (some (at i manyLeaves)) (passing (n + leavesOf t) ps))
+    go : (b : Bool) → Numbered (passing (n + leavesOf t) ps) → Numbered (cond b (some (at i manyLeaves)) (passing (n + leavesOf t) ps))
     go true rest = fixed manyLeaves (omega arith) (omega arith)
     go false rest = rest
 

@@ -1,6 +1,6 @@
 -- How large the second number of the sheet call can be: a place is at most the text limit, and a made sheet's length at most that of the largest sheet.
 use mathlib.Core.Path.{_≡_, refl}
-use mathlib.Core.Bool.{Bool, true, false}
+use mathlib.Core.Bool.{Bool, true, false, cond}
 use mathlib.Core.Option.{Option, none, some}
 use mathlib.Core.List.{List, [], _∷_}
 use Prim.Native.Nat.{ℕ, zero, suc, _+_, _≤_}
@@ -13,7 +13,7 @@ use Rattle.rules.specs.Numbers.{longText, manyLeaves, manyNodes}
 use Rattle.rules.specs.Refusal.{because, firstOf}
 use Rattle.rules.proofs.Refusal.{some-eq, Gives, AllGive, because-gives, first-gives}
 use Rattle.language.specs.Tree.{Tree}
-use Rattle.lexer.specs.Tokens.{choose, aLiteral, aBar, aStar, anOpen, aClose, aFault, Placed, placed, tokensFrom}
+use Rattle.lexer.specs.Tokens.{aLiteral, aBar, aStar, anOpen, aClose, aFault, Placed, placed, tokensFrom}
 use Rattle.lexer.proofs.Inside.{Inside, inside}
 use Rattle.sheet.specs.Make.{postorder, sheetOf}
 use Rattle.sheet.proofs.Own.{length-leaves, own-length}
@@ -56,7 +56,7 @@ module _ (e : ℕ) where
   passing-near n [] w = tt
   passing-near n (placed i t ∷ ps) (h, w) = go (ltb leafLimit (n + leavesOf t)) (passing-near (n + leavesOf t) ps w)
     where
-      go : (b : Bool) → Gives Near (passing (n + leavesOf t) ps) → Gives Near (choose b (some (at i manyLeaves)) (passing (n + leavesOf t) ps))
+      go : (b : Bool) → Gives Near (passing (n + leavesOf t) ps) → Gives Near (cond b (some (at i manyLeaves)) (passing (n + leavesOf t) ps))
       go true rest = h
       go false rest = rest
 

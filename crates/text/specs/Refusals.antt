@@ -1,4 +1,5 @@
 -- Why a text is refused, 10 to 17 and 19, in document 01's order, a line a walk; 18 comes after them and asks for the sheet's length.
+use mathlib.Core.Bool.{cond}
 use mathlib.Core.Option.{Option, none, some}
 use mathlib.Core.List.{List, [], _∷_}
 use Prim.Native.Nat.{ℕ, _+_}
@@ -8,7 +9,7 @@ use Rattle.rules.specs.Limits.{textLimit, leafLimit, nodeLimit}
 use Rattle.rules.specs.Numbers.{longText, manyLeaves, manyNodes}
 use Rattle.rules.specs.Refusal.{because, firstOf}
 use Rattle.sheet.specs.Make.{postorder}
-use Rattle.lexer.specs.Tokens.{choose, Token, aLiteral, aBar, aStar, anOpen, aClose, aFault, Placed, placed, tokensFrom}
+use Rattle.lexer.specs.Tokens.{Token, aLiteral, aBar, aStar, anOpen, aClose, aFault, Placed, placed, tokensFrom}
 use Rattle.text.specs.Walk.{Fault, Answer, tree, fault, parse}
 
 abbrev pub at : ℕ → ℕ → Fault
@@ -41,7 +42,7 @@ leavesOf (aFault k) = 0
 -- 16: the place of the literal whose leaves pass the limit, after n leaves
 abbrev pub passing : ℕ → List Placed → Option Fault
 passing n [] = none
-passing n (placed i t ∷ ps) = choose (ltb leafLimit (n + leavesOf t)) (some (at i manyLeaves)) (passing (n + leavesOf t) ps)
+passing n (placed i t ∷ ps) = cond (ltb leafLimit (n + leavesOf t)) (some (at i manyLeaves)) (passing (n + leavesOf t) ps)
 
 -- 17: more nodes than the limit; e: the text's length
 abbrev pub tooBig : ℕ → Answer → Option Fault
