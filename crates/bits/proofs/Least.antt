@@ -9,8 +9,9 @@ use native.Mathlib.Omega.{arith}
 use lib.ListN.{getD}
 use lib.Dec.{leb}
 use borrow.Author.Tests.{le-leb, lt-leb, leb-true}
+use Rattle.rules.proofs.Truth.{and-true-left, and-true-right}
 use Rattle.bits.specs.Sets.{wordBits, setWords, bit, has, LeastFrom, found, nowhere}
-use Rattle.bits.proofs.Bits.{and-first, and-second, bit-zero, bit-shl, bit-shr, Lowest}
+use Rattle.bits.proofs.Bits.{bit-zero, bit-shl, bit-shr, Lowest}
 use Rattle.bits.proofs.Stores.{word-at, has-out}
 
 module _ (xs : List ℕ) (k bound : ℕ) where
@@ -59,10 +60,10 @@ module _ (xs : List ℕ) (k bound : ℕ) where
             sym (mask (wordBits * i + t) e) ∙ rw n (v .set)
 
         low : bound ≤ wordBits * i + t
-        low = leb-true bound (wordBits * i + t) (and-first (leb bound (wordBits * i + t)) (has xs k (wordBits * i + t)) both)
+        low = leb-true bound (wordBits * i + t) (and-true-left (leb bound (wordBits * i + t)) (has xs k (wordBits * i + t)) both)
 
         here : has xs k (wordBits * i + t) ≡ true
-        here = and-second (leb bound (wordBits * i + t)) (has xs k (wordBits * i + t)) both
+        here = and-true-right (leb bound (wordBits * i + t)) (has xs k (wordBits * i + t)) both
 
         others : (x : ℕ) → bound ≤ x → x < wordBits * i + t → has xs k x ≡ false
         others x h g =

@@ -11,8 +11,9 @@ use lib.Bits.{bitOr, bitAnd}
 use lib.ListN.{getD}
 use lib.Dec.{eqb}
 use borrow.Author.Tests.{eq-eqb, ne-eqb}
+use Rattle.rules.proofs.Truth.{and-true-left, and-true-right}
 use Rattle.bits.specs.Sets.{wordBits, setWords, setBits, bit, has, someBelow, share}
-use Rattle.bits.proofs.Bits.{and-first, and-second, bit-zero, bit-or, bit-and, no-bit, some-bit}
+use Rattle.bits.proofs.Bits.{bit-zero, bit-or, bit-and, no-bit, some-bit}
 use Rattle.bits.proofs.Stores.{word-at, has-below}
 
 -- ---- some number below n passes the test
@@ -47,7 +48,7 @@ share-in xs j ys k q a b = some-in (λ q. has xs j q && has ys k q) setBits q (h
 
 pub share-out : (xs : List ℕ) (j : ℕ) (ys : List ℕ) (k : ℕ) → share xs j ys k ≡ true → (q : ℕ) × ((has xs j q ≡ true) × (has ys k q ≡ true))
 unfolding share
-share-out xs j ys k e = let w = some-out (λ q. has xs j q && has ys k q) setBits e in (w .at, (and-first (has xs j (w .at)) (has ys k (w .at)) (w .passes), and-second (has xs j (w .at)) (has ys k (w .at)) (w .passes)))
+share-out xs j ys k e = let w = some-out (λ q. has xs j q && has ys k q) setBits e in (w .at, (and-true-left (has xs j (w .at)) (has ys k (w .at)) (w .passes), and-true-right (has xs j (w .at)) (has ys k (w .at)) (w .passes)))
 
 -- ---- a walk over the words of both: what the words below i have in common
 
@@ -95,5 +96,5 @@ module _ (xs : List ℕ) (j : ℕ) (ys : List ℕ) (k : ℕ) where
           let w = some-out (inBoth b) setWords (sym (h b) ∙ e) in
           let q : ℕ = wordBits * w .at + b in
           let e = sym (in-both (w .at) b (w .below) l) ∙ w .passes in
-          share-in xs j ys k q (and-first (has xs j q) (has ys k q) e) (and-second (has xs j q) (has ys k q) e))
+          share-in xs j ys k q (and-true-left (has xs j q) (has ys k q) e) (and-true-right (has xs j q) (has ys k q) e))
           (λ (l : ¬ (b < wordBits)). absurd (true≢false (sym e ∙ no-bit u b wordBits s (omega arith))))

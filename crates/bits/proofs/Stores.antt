@@ -13,8 +13,9 @@ use lib.ListN.{length, getD, set, replicate, length-set, length-replicate, getD-
 use lib.Seq.{getD-set-same, getD-set-other}
 use lib.Dec.{eqb, ltb, eqb·suc-zero}
 use borrow.Author.Tests.{eq-eqb, ne-eqb, lt-ltb, le-ltb, ltb-true}
+use Rattle.rules.proofs.Truth.{and-true-left}
 use Rattle.bits.specs.Sets.{wordBits, setWords, setBits, bit, has, Empty}
-use Rattle.bits.proofs.Bits.{and-first, bit-or, bit-and, bit-zero, bit-pow, bit-up, double-low, double-up}
+use Rattle.bits.proofs.Bits.{bit-or, bit-and, bit-zero, bit-pow, bit-up, double-low, double-up}
 
 -- ---- a set by its words
 
@@ -32,7 +33,7 @@ word-at xs k i x h e = sym (word-has xs k x (omega arith) ∙ rw e refl)
 
 pub has-below : (xs : List ℕ) (k x : ℕ) → has xs k x ≡ true → x < setBits
 unfolding has
-has-below xs k x e = ltb-true x setBits (and-first (ltb x setBits) _ e)
+has-below xs k x e = ltb-true x setBits (and-true-left (ltb x setBits) _ e)
 
 zero-at : (n i : ℕ) → getD {A = ℕ} (replicate n 0) i 0 ≡ 0
 zero-at n i =

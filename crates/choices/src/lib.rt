@@ -1,11 +1,11 @@
 // Choices among live positions: the least reading of a name, the reading after a given one, and whether a sequence is a reading.
 ghost use mathlib.Core.Path.{_≡_};
 ghost use mathlib.Core.Bool.{_&&_, true};
-ghost use mathlib.Core.List.{List, _∷_, _++_};
-ghost use Prim.Native.Nat.{ℕ, suc, _+_, _*_, _<_, _≤_};
+ghost use mathlib.Core.List.{_∷_, _++_};
+ghost use Prim.Native.Nat.{ℕ, _+_, _*_, _<_, _≤_};
 ghost use lib.Dec.{T};
 ghost use lib.ListN.{length, getD, take, drop, set};
-ghost use Rattle.rules.specs.Limits.{nameLimit, rowSize, areaFor, entrySize, entries};
+ghost use Rattle.rules.specs.Limits.{nameLimit, rowSize, areaFor, entries};
 ghost use Rattle.language.specs.Tree.{size};
 ghost use Rattle.language.specs.Local.{Numbered};
 ghost use Rattle.language.specs.Reading.{Pattern};

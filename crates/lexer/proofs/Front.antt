@@ -1,7 +1,7 @@
 -- What a test on the bytes from a place on says of that place, and a token off the front of a text.
 use mathlib.Core.Path.{_≡_, refl, ap, sym, _∙_}
 use mathlib.Core.Logic.{by-cases}
-use mathlib.Core.Bool.{Bool, true, false, true≢false, _&&_}
+use mathlib.Core.Bool.{Bool, true, false, true≢false}
 use mathlib.Core.List.{List, [], _∷_}
 use Prim.Native.Nat.{ℕ, zero, suc, _+_, _<_, _≤_}
 use native.Mathlib.Nat.{add-zero}
@@ -13,14 +13,6 @@ use lib.Seq.{drop-cons, drop-drop}
 use borrow.Author.Tests.{eqb-true}
 use Rattle.lexer.specs.Bytes.{bar, asterisk, leftParenthesis, rightParenthesis}
 use Rattle.lexer.specs.Tokens.{Token, Placed, placed, aBar, aStar, anOpen, aClose, aFault, tok, wrong, first, starts, tokenOf, lex, tokensFrom}
-
-pub and-left : (a b : Bool) → (a && b) ≡ true → a ≡ true
-and-left true b e = refl
-and-left false b e = absurd (true≢false (sym e))
-
-pub and-right : (a b : Bool) → (a && b) ≡ true → b ≡ true
-and-right true b e = e
-and-right false b e = absurd (true≢false (sym e))
 
 -- a test that no bytes pass, on the bytes from a place on
 module _ (f : List ℕ → Bool) (t : List ℕ) (at : ℕ) where

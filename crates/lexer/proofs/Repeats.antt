@@ -9,19 +9,20 @@ use lib.Seq.{drop-drop, getD-drop}
 use lib.Dec.{leb}
 use borrow.Author.Tests.{leb-true}
 use Rattle.rules.specs.Numbers.{strangeRepeat}
+use Rattle.rules.proofs.Truth.{and-true-left, and-true-right}
 use Rattle.lexer.specs.declared.Figure.{Figure}
 use Rattle.lexer.specs.declared.Figure.the-variants.{Digits, Nothing}
 use Rattle.lexer.specs.declared.Literal.the-variants.{Of}
 use Rattle.lexer.specs.Bytes.{digitZero, digitNine, leftBrace, rightBrace, comma, isDigit}
 use Rattle.lexer.specs.Tokens.{digits, noNumber, digitAt, numberAt, repeatAt, starts}
 use Rattle.lexer.specs.Places.{mostCopies, numberOf, FigureFits, closesAt, refusedAs, literalWith}
-use Rattle.lexer.proofs.Front.{and-left, and-right, front-in, front-inside, byte-inside}
+use Rattle.lexer.proofs.Front.{front-in, front-inside, byte-inside}
 
 pub digit-bounds : (t : List ℕ) (at : ℕ) → digitAt (drop at t) ≡ true → (digitZero ≤ getD t at 0) × (getD t at 0 ≤ digitNine)
 digit-bounds t at e =
     let b = getD t at 0 in
     let d : isDigit (getD t at 0) ≡ true = front-in digitAt t at (front-inside digitAt t at refl e) ∙ e in
-    (leb-true digitZero b (and-left (leb digitZero b) (leb b digitNine) d), leb-true b digitNine (and-right (leb digitZero b) (leb b digitNine) d))
+    (leb-true digitZero b (and-true-left (leb digitZero b) (leb b digitNine) d), leb-true b digitNine (and-true-right (leb digitZero b) (leb b digitNine) d))
 
 module _ (t : List ℕ) (at : ℕ) where
   next-digit : digitAt (drop 1 (drop at t)) ≡ digitAt (drop (at + 1) t)
@@ -70,5 +71,5 @@ module _ (t : List ℕ) (b at : ℕ) where
 -- the brace that closes a repeat stands in the text
 pub closes-inside : (t : List ℕ) (i j x y : ℕ) → closesAt t i j x y ≡ true → (x ≤ y) × (j < length t)
 closes-inside t i j x y d =
-    let r = and-right (starts (drop i t) comma) (starts (drop j t) rightBrace && leb x y) d in
-    (leb-true x y (and-right (starts (drop j t) rightBrace) (leb x y) r), byte-inside t j rightBrace (and-left (starts (drop j t) rightBrace) (leb x y) r))
+    let r = and-true-right (starts (drop i t) comma) (starts (drop j t) rightBrace && leb x y) d in
+    (leb-true x y (and-true-right (starts (drop j t) rightBrace) (leb x y) r), byte-inside t j rightBrace (and-true-left (starts (drop j t) rightBrace) (leb x y) r))

@@ -1,7 +1,7 @@
 -- From the byte where a unit other than a parenthesis starts to its token: one law for each answer of the functions that read it.
 use mathlib.Core.Path.{_≡_, refl, ap, sym, _∙_}
 use mathlib.Core.Logic.{by-cases}
-use mathlib.Core.Bool.{Bool, true, false, cond, true≢false, _&&_, _||_, not}
+use mathlib.Core.Bool.{Bool, true, false, cond, _&&_, _||_, not}
 use mathlib.Core.List.{List, _∷_}
 use Prim.Native.Nat.{ℕ, _+_, _<_, _≤_}
 use native.Mathlib.Nat.{add-zero}
@@ -13,21 +13,14 @@ use lib.Dec.{ltb, leb, eqb}
 use borrow.Author.Tests.{lt-ltb, le-ltb, le-leb, lt-leb, ne-eqb, not-true}
 use Rattle.rules.specs.Limits.{lowestByte, highestByte, outside}
 use Rattle.rules.specs.Numbers.{strangeByte, strangeRepeat}
+use Rattle.rules.proofs.Truth.{and-true-left, and-true-right, or-false-left, or-false-right}
 use Rattle.lexer.specs.declared.Refusal.{Refusal}
 use Rattle.lexer.specs.declared.Literal.{Literal}
 use Rattle.lexer.specs.declared.Literal.the-variants.{Of, Fault}
 use Rattle.lexer.specs.Bytes.{bar, asterisk, leftParenthesis, rightParenthesis, backslash, leftBrace, rightBrace, isMark}
 use Rattle.lexer.specs.Tokens.{Repeat, noRepeat, badRepeat, repeat, repeatAt, aLiteral, placed, wrong, literalOf, starts, markAt, tokenOf, tokensFrom}
 use Rattle.lexer.specs.Places.{startsUnit, unitAt, isPlain, plainAt, refusedAs, literalWith, LiteralFits, Taken, Faulty, LiteralIs}
-use Rattle.lexer.proofs.Front.{and-left, and-right, front-in, front-inside, tokens-token, tokens-wrong}
-
-or-left : (a b : Bool) → (a || b) ≡ false → a ≡ false
-or-left true b e = absurd (true≢false e)
-or-left false b e = refl
-
-or-right : (a b : Bool) → (a || b) ≡ false → b ≡ false
-or-right true b e = absurd (true≢false e)
-or-right false b e = e
+use Rattle.lexer.proofs.Front.{front-in, front-inside, tokens-token, tokens-wrong}
 
 -- the byte is none of the marks that are tokens by themselves
 record Other (b : ℕ) : Type 0 where
@@ -38,12 +31,12 @@ record Other (b : ℕ) : Type 0 where
 
 other : (b : ℕ) → startsUnit b ≡ true → eqb b leftParenthesis ≡ false → Other b
 other b u o =
-    let r = and-right (not (eqb b bar)) (not (eqb b asterisk) && not (eqb b rightParenthesis)) u in
+    let r = and-true-right (not (eqb b bar)) (not (eqb b asterisk) && not (eqb b rightParenthesis)) u in
     record {
-      no-bar = not-true (eqb b bar) (and-left (not (eqb b bar)) (not (eqb b asterisk) && not (eqb b rightParenthesis)) u);
-      no-star = not-true (eqb b asterisk) (and-left (not (eqb b asterisk)) (not (eqb b rightParenthesis)) r);
+      no-bar = not-true (eqb b bar) (and-true-left (not (eqb b bar)) (not (eqb b asterisk) && not (eqb b rightParenthesis)) u);
+      no-star = not-true (eqb b asterisk) (and-true-left (not (eqb b asterisk)) (not (eqb b rightParenthesis)) r);
       no-open = o;
-      no-close = not-true (eqb b rightParenthesis) (and-right (not (eqb b asterisk)) (not (eqb b rightParenthesis)) r);
+      no-close = not-true (eqb b rightParenthesis) (and-true-right (not (eqb b asterisk)) (not (eqb b rightParenthesis)) r);
     }
 
 module _ (t : List ℕ) (at : ℕ) (u : unitAt (drop at t) ≡ true) (p : starts (drop at t) leftParenthesis ≡ false) where
@@ -141,16 +134,16 @@ module _ (t : List ℕ) (at : ℕ) (p : plainAt (drop at t) ≡ true) where
       let b = getD t at 0 in
       let s = drop (at + 1) t in
       let w : (isPlain (getD t at 0) && not (starts (drop (at + 1) t) leftBrace)) ≡ true = front-in plainAt t at plain-inside ∙ p in
-      let q : (not (isMark b) && not (outside b)) ≡ true = and-left (isPlain b) (not (starts s leftBrace)) w in
-      let o = not-true (outside b) (and-right (not (isMark b)) (not (outside b)) q) in
-      let e = not-true (starts s leftBrace) (and-right (isPlain b) (not (starts s leftBrace)) w) in
-      let m = not-true (isMark b) (and-left (not (isMark b)) (not (outside b)) q) in
-      let m2 = or-right (eqb b bar) (eqb b asterisk || (eqb b leftParenthesis || (eqb b rightParenthesis || (eqb b backslash || (eqb b leftBrace || eqb b rightBrace))))) m in
-      let m3 = or-right (eqb b asterisk) (eqb b leftParenthesis || (eqb b rightParenthesis || (eqb b backslash || (eqb b leftBrace || eqb b rightBrace)))) m2 in
-      let m4 = or-right (eqb b leftParenthesis) (eqb b rightParenthesis || (eqb b backslash || (eqb b leftBrace || eqb b rightBrace))) m3 in
-      let m5 = or-right (eqb b rightParenthesis) (eqb b backslash || (eqb b leftBrace || eqb b rightBrace)) m4 in
-      let m6 = or-right (eqb b backslash) (eqb b leftBrace || eqb b rightBrace) m5 in
+      let q : (not (isMark b) && not (outside b)) ≡ true = and-true-left (isPlain b) (not (starts s leftBrace)) w in
+      let o = not-true (outside b) (and-true-right (not (isMark b)) (not (outside b)) q) in
+      let e = not-true (starts s leftBrace) (and-true-right (isPlain b) (not (starts s leftBrace)) w) in
+      let m = not-true (isMark b) (and-true-left (not (isMark b)) (not (outside b)) q) in
+      let m2 = or-false-right (eqb b bar) (eqb b asterisk || (eqb b leftParenthesis || (eqb b rightParenthesis || (eqb b backslash || (eqb b leftBrace || eqb b rightBrace))))) m in
+      let m3 = or-false-right (eqb b asterisk) (eqb b leftParenthesis || (eqb b rightParenthesis || (eqb b backslash || (eqb b leftBrace || eqb b rightBrace)))) m2 in
+      let m4 = or-false-right (eqb b leftParenthesis) (eqb b rightParenthesis || (eqb b backslash || (eqb b leftBrace || eqb b rightBrace))) m3 in
+      let m5 = or-false-right (eqb b rightParenthesis) (eqb b backslash || (eqb b leftBrace || eqb b rightBrace)) m4 in
+      let m6 = or-false-right (eqb b backslash) (eqb b leftBrace || eqb b rightBrace) m5 in
       let z : at + 1 + 0 ≡ at + 1 = omega arith in
       rw z at
       (tokens-token t at plain-inside (aLiteral (getD t at 0) 1 1) 0
-      (rw (or-left (eqb b bar) _ m, or-left (eqb b asterisk) _ m2, or-left (eqb b leftParenthesis) _ m3, or-left (eqb b rightParenthesis) _ m4, or-left (eqb b backslash) _ m5, m6, o, e) refl))
+      (rw (or-false-left (eqb b bar) _ m, or-false-left (eqb b asterisk) _ m2, or-false-left (eqb b leftParenthesis) _ m3, or-false-left (eqb b rightParenthesis) _ m4, or-false-left (eqb b backslash) _ m5, m6, o, e) refl))

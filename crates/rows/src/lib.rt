@@ -1,12 +1,12 @@
 // Rows of live positions in the work area: filled from the right, looked at, and wiped.
 ghost use mathlib.Core.Path.{_≡_};
 ghost use mathlib.Core.List.{List, _∷_, _++_};
-ghost use Prim.Native.Nat.{ℕ, suc, _+_, _*_, _<_, _≤_};
-ghost use lib.ListN.{length, getD, drop, replicate};
+ghost use Prim.Native.Nat.{ℕ, _+_, _*_, _<_, _≤_};
+ghost use lib.ListN.{length, drop, replicate};
 ghost use Rattle.rules.specs.Limits.{nameLimit, rowSize, areaFor};
 ghost use Rattle.language.specs.Reading.{Pattern};
 ghost use Rattle.language.specs.Search.{accepts};
-ghost use Rattle.bits.specs.Sets.{setWords, setBits, setBytes};
+ghost use Rattle.bits.specs.Sets.{setWords};
 ghost use Rattle.automaton.specs.Tables.{followWords, letterWords};
 ghost use Rattle.automaton.specs.Tables.{Follows, Stops, Letters};
 ghost use Rattle.rows.specs.Rows.{byteValues, Live, LastLive, rowAt, RowsOf};
