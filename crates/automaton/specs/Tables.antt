@@ -2,8 +2,9 @@
 use mathlib.Core.Path.{_≡_}
 use mathlib.Core.Bool.{Bool, cond, _&&_}
 use mathlib.Core.List.{List}
-use Prim.Native.Nat.{ℕ, _*_, _<_}
+use Prim.Native.Nat.{ℕ, _+_, _*_, _<_}
 use lib.Dec.{leb, ltb}
+use Rattle.rules.specs.Limits.{highestByte}
 use Rattle.bits.specs.Sets.{setWords, setBits, has}
 use Rattle.language.specs.Tree.{size}
 use Rattle.language.specs.Reading.{Pattern}
@@ -13,14 +14,14 @@ use Rattle.language.specs.Follow.{step, stop}
 abbrev pub followWords : ℕ
 followWords = setWords * setBits
 
--- a set for each byte below this, which is above every literal
+-- a set for each byte up to the highest literal
 abbrev pub letterSets : ℕ
-letterSets = 128
+letterSets = highestByte + 1
 
 abbrev pub letterWords : ℕ
 letterWords = setWords * letterSets
 
--- the set of a byte; the others share that of 0, which is no literal either
+-- the set of a byte; those above share that of 0, which is no literal either
 abbrev pub letterOf : ℕ → ℕ
 letterOf b = cond (ltb b letterSets) b 0
 

@@ -14,10 +14,10 @@ ghost use Rattle.bits.specs.Sets.{setWords, setBits, Empty};
 ghost use Rattle.automaton.specs.Tables.{followWords, letterSets, letterWords, letterOf, Tables};
 ghost use Rattle.automaton.specs.Walk.{stackWords, Held, State, Reached, Closed, LettersTo};
 
-// Above every literal: no larger byte needs a set of its own.
-const LETTER_SETS: usize = 128;
+// A set for each byte up to the highest literal.
+const LETTER_SETS: usize = rules::HIGHEST_BYTE as usize + 1;
 
-// The words of the tables: a set for each position and the start, and a set for each byte that a literal may be.
+// The words of the tables: a set for each position and the start, and the sets of the letters.
 pub const FOLLOW_WORDS: usize = bits::SET_WORDS * bits::SET_BITS;
 
 pub const LETTER_WORDS: usize = bits::SET_WORDS * LETTER_SETS;

@@ -1,5 +1,5 @@
 -- The whole call: which refusal is the first, and what is made where there is none.
-use mathlib.Core.Path.{_≡_, refl, ap, sym, _∙_}
+use mathlib.Core.Path.{_≡_, refl, ap, _∙_}
 use mathlib.Core.Option.{Option, none, some}
 use mathlib.Core.List.{List, [], _∷_, _++_}
 use Prim.Native.Nat.{ℕ, zero, suc, _+_, _<_, _≤_}
@@ -8,9 +8,8 @@ use lib.ListN.{length, take, drop, length-append}
 use lib.Seq.{length-sets, take-at}
 use borrow.Author.Tests.{lt-ltb, le-ltb}
 use Rattle.rules.specs.Limits.{textLimit, openLimit, leafLimit, nodeLimit, wiped, filled}
-use Rattle.rules.specs.Numbers.{longText, missingOperand, tooDeep, manyLeaves, manyNodes, shortSheet}
+use Rattle.rules.specs.Numbers.{longText, manyLeaves, manyNodes, shortSheet}
 use Rattle.rules.specs.Refusal.{refused, answered}
-use Rattle.rules.proofs.Refusal.{no-some}
 use Rattle.language.specs.Tree.{Tree}
 use Rattle.sheet.specs.Make.{leaves, postorder, sheetOf}
 use Rattle.sheet.proofs.Own.{length-leaves}
@@ -158,32 +157,3 @@ module _ (text buffer xs nodes bs lits : List ℕ) (m l : ℕ) (h : length text 
       call-made after a b c z =
           let s : length (sheetOf (v .made)) ≤ length buffer = omega (arith, sheet-length) in
           rw (z ∙ ap (filled buffer) (sections-sheet a b), ← sheet-length) (answered none-refuses (made (parse-iff text (v .made) .0 (v .found)) s))
-
--- AFTER A CLEAN FIRST WALK
--- only 12 to 15 are left
-pub record Grammatical (k : ℕ) : Type 0 where
-  pub low : missingOperand ≤ k
-  pub high : k ≤ tooDeep
-
-number-of : {e f : Fault} → fault e ≡ fault f → Grammatical (e .number) → Grammatical (f .number)
-number-of {e} {f} q g = let z : e ≡ f = cc in rw (ap (λ (x : Fault). x .number) z) at g
-
-run-left : (e d : ℕ) (ps : List Placed) (f : Frame) (gs : List Frame) (k : Fault) → lexical ps ≡ none → run e d ps f gs ≡ fault k → Grammatical (k .number)
-run-left e d [] (begin a) [] k c q = number-of q (record { low = omega arith; high = omega arith })
-run-left e d [] (going a s u) [] k c q = never (sym q)
-run-left e d [] f (g ∷ gs) k c q = number-of q (record { low = omega arith; high = omega arith })
-run-left e d (placed i (aLiteral b x y) ∷ ps) f gs k c q = run-left e d ps _ gs k c q
-run-left e d (placed i aStar ∷ ps) (begin a) gs k c q = number-of q (record { low = omega arith; high = omega arith })
-run-left e d (placed i aStar ∷ ps) (going a s u) gs k c q = run-left e d ps _ gs k c q
-run-left e d (placed i aBar ∷ ps) (begin a) gs k c q = number-of q (record { low = omega arith; high = omega arith })
-run-left e d (placed i aBar ∷ ps) (going a s u) gs k c q = run-left e d ps _ gs k c q
-run-left e zero (placed i anOpen ∷ ps) f gs k c q = number-of q (record { low = omega arith; high = omega arith })
-run-left e (suc d) (placed i anOpen ∷ ps) f gs k c q = run-left e d ps (begin none) (f ∷ gs) k c q
-run-left e d (placed i aClose ∷ ps) f [] k c q = number-of q (record { low = omega arith; high = omega arith })
-run-left e d (placed i aClose ∷ ps) (begin none) (g ∷ gs) k c q = run-left e (suc d) ps _ gs k c q
-run-left e d (placed i aClose ∷ ps) (begin (some r)) (g ∷ gs) k c q = number-of q (record { low = omega arith; high = omega arith })
-run-left e d (placed i aClose ∷ ps) (going a s u) (g ∷ gs) k c q = run-left e (suc d) ps _ gs k c q
-run-left e d (placed i (aFault j) ∷ ps) f gs k c q = no-some (sym c)
-
-pub only-grammatical : (text : List ℕ) (k : Fault) → lexical (tokensFrom text 0) ≡ none → parse text ≡ fault k → Grammatical (k .number)
-only-grammatical text k = run-left (length text) openLimit (tokensFrom text 0) (begin none) [] k
