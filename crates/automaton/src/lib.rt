@@ -13,6 +13,7 @@ ghost use Rattle.sheet.specs.Refusals.{sheetRefusal};
 ghost use Rattle.bits.specs.Sets.{setWords, setBits, Empty};
 ghost use Rattle.automaton.specs.Tables.{followWords, letterSets, letterWords, letterOf, Tables};
 ghost use Rattle.automaton.specs.Walk.{stackWords, Held, State, Reached, Closed, LettersTo};
+use rules::wide;
 
 // A set for each byte up to the highest literal.
 const LETTER_SETS: usize = rules::HIGHEST_BYTE as usize + 1;
@@ -109,13 +110,6 @@ fn put_star(follow: &mut [u64], firsts: &[u64], stops: &mut [u64], k: usize)
 {
     bits::link(follow, stops, k, firsts, k);
     bits::insert(stops, k, 0);
-}
-
-// A byte as a length.
-fn wide(b: u8) -> usize
-    ensures { λ r. ⌜ (r ≡ b) × (r < 256) ⌝ }
-{
-    b as usize
 }
 
 // Which set of the letters has the positions that take a byte.

@@ -5,7 +5,7 @@ ghost use mathlib.Core.List.{_∷_, _++_};
 ghost use Prim.Native.Nat.{ℕ, _+_, _*_, _<_, _≤_};
 ghost use lib.Dec.{T};
 ghost use lib.ListN.{length, getD, take, drop, set};
-ghost use Rattle.rules.specs.Limits.{nameLimit, rowSize, areaFor, entries};
+ghost use Rattle.rules.specs.Limits.{byteValues, nameLimit, rowSize, areaFor, entries};
 ghost use Rattle.language.specs.Tree.{size};
 ghost use Rattle.language.specs.Local.{Numbered};
 ghost use Rattle.language.specs.Reading.{Pattern};
@@ -13,7 +13,7 @@ ghost use Rattle.language.specs.Search.{isReading};
 ghost use Rattle.bits.specs.Sets.{setWords, setBits, has, rowHas, LeastFrom};
 ghost use Rattle.automaton.specs.Tables.{followWords, letterWords, letterOf};
 ghost use Rattle.automaton.specs.Tables.{Follows, Stops, Letters};
-ghost use Rattle.rows.specs.Rows.{byteValues, readable, rowAt, RowsOf};
+ghost use Rattle.rows.specs.Rows.{readable, rowAt, RowsOf};
 ghost use Rattle.choices.specs.Moves.{chosen, Within, Moved, Advanced};
 use bits::SET_BITS;
 use bits::SET_WORDS;
@@ -33,7 +33,7 @@ fn entry(mapping: &[u8], i: Place) -> Position
     ensures { λ r. ⌜ (r .0 ≡ getD (now (mapping .entry)) (i .0) 0) × (r .0 < byteValues) ⌝ }
 {
     let at = i.0;
-    Position(rows::wide(mapping[at]))
+    Position(rules::wide(mapping[at]))
 }
 
 // The entry before a place; at the first place, the start.

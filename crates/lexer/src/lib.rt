@@ -12,6 +12,9 @@ use rules::LOWEST_BYTE;
 use rules::STRANGE_BYTE;
 use rules::STRANGE_REPEAT;
 use rules::TEXT_LIMIT;
+use rules::wide;
+
+const DIGIT_ZERO: usize = b'0' as usize;
 
 // A refusal: its number, and its place (with 18 the length needed).
 pub struct Refusal {
@@ -143,18 +146,12 @@ fn digit_at(text: &[u8], at: usize) -> bool
     false
 }
 
-fn wide(b: u8) -> usize
-    ensures { λ r. ⌜ (r ≡ b) × (r < 256) ⌝ }
-{
-    b as usize
-}
-
 // The value of the digit at a place.
 fn digit(text: &[u8], at: usize) -> usize
     requires { ⌜ digitAt (drop at (now text)) ≡ true ⌝ }
     ensures { λ r. ⌜ (r ≡ getD (now (text .entry)) at 0 - digitZero) × (r ≤ 9) ⌝ }
 {
-    wide(text[at]) - 48
+    wide(text[at]) - DIGIT_ZERO
 }
 
 fn figure_at(text: &[u8], at: usize) -> Figure

@@ -12,10 +12,6 @@ use Rattle.language.specs.Search.{live, okIn}
 use Rattle.bits.specs.Sets.{rowHas}
 use Rattle.automaton.specs.Tables.{takesAt}
 
--- the values of a byte
-abbrev pub byteValues : ℕ
-byteValues = 256
-
 -- after p, the bytes can be read
 abbrev pub readable : Pattern → List ℕ → ℕ → Bool
 readable P bs p = live (okIn P) (stop (P .tree)) (size (P .tree)) bs p

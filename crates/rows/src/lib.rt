@@ -9,7 +9,7 @@ ghost use Rattle.language.specs.Search.{accepts};
 ghost use Rattle.bits.specs.Sets.{setWords};
 ghost use Rattle.automaton.specs.Tables.{followWords, letterWords};
 ghost use Rattle.automaton.specs.Tables.{Follows, Stops, Letters};
-ghost use Rattle.rows.specs.Rows.{byteValues, Live, LastLive, rowAt, RowsOf};
+ghost use Rattle.rows.specs.Rows.{Live, LastLive, rowAt, RowsOf};
 use bits::SET_WORDS;
 use rules::ROW_SIZE;
 
@@ -29,13 +29,6 @@ pub fn wipe(area: &mut [u8], size: usize)
         area[i] = 0;
         i += 1;
     }
-}
-
-// A byte as a number.
-pub fn wide(x: u8) -> usize
-    ensures { λ r. ⌜ (r ≡ x) × (r < byteValues) ⌝ }
-{
-    x as usize
 }
 
 // Fills the row in front from the row after it: the positions that take the byte, and after which one of that row may come.

@@ -8,6 +8,7 @@ ghost use Rattle.rules.specs.Refusal.{firstOf};
 ghost use Rattle.sheet.specs.Nodes.{nodeOf, highestNode, isLeaf};
 ghost use Rattle.sheet.specs.Refusals.{anyOf, nodeGrounds, sheetRefusal};
 ghost use Rattle.sheet.specs.Answer.{refusalOf};
+use rules::wide;
 
 const HIGHEST_NODE: u8 = rules::STAR_NODE;
 
@@ -61,13 +62,6 @@ fn any_above(nodes: &[u8]) -> bool
         i += 1;
     }
     found
-}
-
-// A byte as a length.
-fn wide(b: u8) -> usize
-    ensures { λ r. ⌜ (r ≡ b) × (r < 256) ⌝ }
-{
-    b as usize
 }
 
 // 1 for a leaf, else 0.

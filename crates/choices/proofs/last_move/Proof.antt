@@ -4,10 +4,10 @@ use Rattle.choices.proofs.Picks.{least-above}
 use Rattle.choices.proofs.Entries.{entries-length, entry-is, before-is, before-below}
 use Rattle.choices.specs.declared.Move.the-variants.{Nowhere}
 use Rattle.automaton.specs.Tables.{Follows}
-use Rattle.rows.specs.Rows.{byteValues, RowsOf, rowAt}
+use Rattle.rows.specs.Rows.{RowsOf, rowAt}
 use Rattle.bits.specs.Sets.{has, rowHas}
 use Rattle.language.specs.Reading.{Pattern}
-use Rattle.rules.specs.Limits.{entries}
+use Rattle.rules.specs.Limits.{byteValues, entries}
 use lib.ListN.{length, getD}
 use Prim.Native.Nat.{suc, _-_, _<_, _≤_}
 use native.Mathlib.Omega.{arith}
