@@ -1,8 +1,12 @@
 // The listing program of document 01: an expression and a name on two lines, every reading of the name in order.
 // It stands on the exported calls, and has no promise of its own but to be safe and to end.
 ghost use Prim.Native.Nat.{_<_};
+use console::front;
+use console::say;
+use console::say_number;
+use console::say_reading;
+use console::wide;
 use libc::STDIN_FILENO;
-use libc::STDOUT_FILENO;
 
 // One more byte than a text or a name may have, so that a longer line is still too long.
 const TEXT_ROOM: usize = rules::TEXT_LIMIT + 1;
@@ -24,15 +28,6 @@ struct Lines {
     line: usize,
     text: usize,
     name: usize,
-}
-
-// The first n of some bytes, or all of them.
-fn front(bytes: &[u8], n: usize) -> &[u8] {
-    if n <= bytes.len() {
-        &bytes[0..n]
-    } else {
-        bytes
-    }
 }
 
 // Keeps a byte where there is room, and gives the place after the last byte kept.
@@ -126,21 +121,6 @@ fn second(answer: u64) -> u64
     answer / satchelram::NUMBER_ROOM % satchelram::SECOND_ROOM
 }
 
-fn print(words: &[u8]) {
-    io::write_all(STDOUT_FILENO, words);
-}
-
-fn print_number(n: u64) {
-    io::print_decimal(STDOUT_FILENO, n);
-}
-
-// A byte as a number.
-fn wide(byte: u8) -> u64
-    ensures { λ r. ⌜ r < 256 ⌝ }
-{
-    byte as u64
-}
-
 // The byte at a place, or 0 where there is none.
 fn count_at(sheet: &[u8], at: u64) -> u64
     ensures { λ r. ⌜ r < 256 ⌝ }
@@ -152,49 +132,34 @@ fn count_at(sheet: &[u8], at: u64) -> u64
     0
 }
 
-fn print_counts(sheet: &[u8]) {
+fn say_counts(sheet: &[u8]) {
     let leaves = count_at(sheet, 1);
-    print(b"leaves ");
-    print_number(leaves);
-    print(b" nodes ");
-    print_number(count_at(sheet, leaves + 2));
-    print(b"\n");
+    say(b"leaves ");
+    say_number(leaves);
+    say(b" nodes ");
+    say_number(count_at(sheet, leaves + 2));
+    say(b"\n");
 }
 
-fn print_entry(i: usize, position: u8) {
-    if 0 < i {
-        print(b",");
-    }
-    print_number(wide(position));
+// A reading on a line of its own.
+fn list_reading(mapping: &[u8], n: usize) {
+    say_reading(front(mapping, n));
+    say(b"\n");
 }
 
-// The entries with commas between them; `-` for none.
-fn print_reading(entries: &[u8]) {
-    if entries.len() == 0 {
-        print(b"-\n");
-        return;
-    }
-    let mut i = 0;
-    while i < entries.len() {
-        print_entry(i, entries[i]);
-        i += 1;
-    }
-    print(b"\n");
+fn say_end(count: u64) {
+    say(b"end ");
+    say_number(count);
+    say(b"\n");
 }
 
-fn print_end(count: u64) {
-    print(b"end ");
-    print_number(count);
-    print(b"\n");
-}
-
-// Asks for the next reading and prints it, if there is one.
-fn print_next(sheet: &[u8], name: &[u8], mapping: &mut [u8], work: &mut [u8]) -> bool {
+// Asks for the next reading and lists it, if there is one.
+fn list_next(sheet: &[u8], name: &[u8], mapping: &mut [u8], work: &mut [u8]) -> bool {
     let answer = satchelram::satchelram_next(sheet, name, mapping, work);
     if number(answer) != 0 {
         return false;
     }
-    print_reading(front(mapping, name.len()));
+    list_reading(mapping, name.len());
     true
 }
 
@@ -202,32 +167,32 @@ fn print_next(sheet: &[u8], name: &[u8], mapping: &mut [u8], work: &mut [u8]) ->
 fn list_on(sheet: &[u8], name: &[u8], mapping: &mut [u8], work: &mut [u8]) {
     let mut count: u64 = 1;
     while count < MOST {
-        if !print_next(sheet, name, mapping, work) {
-            print_end(count);
+        if !list_next(sheet, name, mapping, work) {
+            say_end(count);
             return;
         }
         count += 1;
     }
     let answer = satchelram::satchelram_next(sheet, name, mapping, work);
     if number(answer) == 0 {
-        print(b"more\n");
+        say(b"more\n");
     } else {
-        print_end(count);
+        say_end(count);
     }
 }
 
 fn list_all(sheet: &[u8], name: &[u8], mapping: &mut [u8], work: &mut [u8]) {
-    print_counts(sheet);
+    say_counts(sheet);
     let answer = satchelram::satchelram_first(sheet, name, mapping, work);
     if number(answer) == 0 {
-        print_reading(front(mapping, name.len()));
+        list_reading(mapping, name.len());
         list_on(sheet, name, mapping, work);
     } else if number(answer) == 1 {
-        print_end(0);
+        say_end(0);
     } else {
-        print(b"refused ");
-        print_number(number(answer));
-        print(b"\n");
+        say(b"refused ");
+        say_number(number(answer));
+        say(b"\n");
     }
 }
 
@@ -240,11 +205,11 @@ fn list(text: &[u8], name: &[u8]) {
         let size = second(answer) as usize;
         list_all(front(&sheet, size), name, &mut mapping, &mut work);
     } else {
-        print(b"refused ");
-        print_number(number(answer));
-        print(b" at ");
-        print_number(second(answer));
-        print(b"\n");
+        say(b"refused ");
+        say_number(number(answer));
+        say(b" at ");
+        say_number(second(answer));
+        say(b"\n");
     }
 }
 

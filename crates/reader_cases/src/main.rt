@@ -6,30 +6,21 @@
 //
 // Sheets, names and sequences are in hexadecimal, `-` for an empty one. Before every call the buffers are filled with rubbish, and after it
 // they are looked at; what is not as document 01 says is printed as `untidy`.
-ghost use mathlib.Core.Path.{_≡_};
 ghost use Prim.Native.Nat.{_≤_, _<_};
 ghost use lib.ListN.{length};
+use console::all_are;
+use console::end_of;
+use console::front;
+use console::say;
+use console::say_field;
+use console::say_reading;
 use libc::STDIN_FILENO;
-use libc::STDOUT_FILENO;
 
 // What a buffer holds before a call.
 const RUBBISH: u8 = 0xa5;
 
 // The row of a place.
 const ROW: usize = 64;
-
-fn say(text: &[u8]) {
-    io::write_all(STDOUT_FILENO, text);
-}
-
-fn wide(b: u8) -> u64 {
-    b as u64
-}
-
-fn say_number(n: u64) {
-    io::write_all(STDOUT_FILENO, b" ");
-    io::print_decimal(STDOUT_FILENO, n);
-}
 
 // Fills a buffer.
 fn put(buffer: &mut [u8], b: u8) {
@@ -52,21 +43,6 @@ fn copy(buffer: &mut [u8], from: &[u8]) {
     }
 }
 
-// Whether all bytes from one place to another are b.
-fn all(buffer: &[u8], from: usize, to: usize, b: u8) -> bool {
-    let mut i = from;
-    while i < to {
-        if buffer.len() <= i {
-            return true;
-        }
-        if buffer[i] != b {
-            return false;
-        }
-        i += 1;
-    }
-    true
-}
-
 fn tidy(well: bool) {
     if !well {
         say(b" untidy");
@@ -77,29 +53,21 @@ fn tidy(well: bool) {
 fn tidy_area(work: &[u8], n: usize) {
     if n < 256 {
         let rows = ROW * (n + 1);
-        tidy(all(work, 0, rows, 0));
-        tidy(all(work, rows, work.len(), RUBBISH));
+        tidy(all_are(front(work, rows), 0, 0));
+        tidy(all_are(work, rows, RUBBISH));
     }
 }
 
-// The first n entries, with commas; `-` for none.
-fn say_reading(mapping: &[u8], n: usize) {
-    if n == 0 {
-        say(b" -");
-        return;
-    }
-    let mut i = 0;
-    while i < n {
-        if mapping.len() <= i {
-            return;
-        }
-        if i == 0 {
-            say(b" ");
-        } else {
-            say(b",");
-        }
-        io::print_decimal(STDOUT_FILENO, wide(mapping[i]));
-        i += 1;
+// What first or next answered to a name of n bytes: a reading, the rest of the mapping wiped; or a number, all of it wiped.
+fn say_answer(r: u64, n: usize, mapping: &[u8], work: &[u8]) {
+    tidy_area(work, n);
+    if r == 0 {
+        say(b" ");
+        say_reading(front(mapping, n));
+        tidy(all_are(mapping, n, 0));
+    } else {
+        say_field(r);
+        tidy(all_are(mapping, 0, 0));
     }
 }
 
@@ -108,14 +76,7 @@ fn ask_first(sheet: &[u8], name: &[u8], mapping: &mut [u8], work: &mut [u8]) -> 
     put(mapping, RUBBISH);
     put(work, RUBBISH);
     let r = reader::number(reader::first(sheet, name, mapping, work));
-    tidy_area(work, name.len());
-    if r == 0 {
-        say_reading(mapping, name.len());
-        tidy(all(mapping, name.len(), mapping.len(), 0));
-    } else {
-        say_number(r);
-        tidy(all(mapping, 0, mapping.len(), 0));
-    }
+    say_answer(r, name.len(), mapping, work);
     r
 }
 
@@ -123,14 +84,7 @@ fn ask_first(sheet: &[u8], name: &[u8], mapping: &mut [u8], work: &mut [u8]) -> 
 fn ask_next(sheet: &[u8], name: &[u8], mapping: &mut [u8], work: &mut [u8]) -> u64 {
     put(work, RUBBISH);
     let r = reader::number(reader::next(sheet, name, mapping, work));
-    tidy_area(work, name.len());
-    if r == 0 {
-        say_reading(mapping, name.len());
-        tidy(all(mapping, name.len(), mapping.len(), 0));
-    } else {
-        say_number(r);
-        tidy(all(mapping, 0, mapping.len(), 0));
-    }
+    say_answer(r, name.len(), mapping, work);
     r
 }
 
@@ -145,7 +99,7 @@ fn ask_check(sheet: &[u8], name: &[u8], mapping: &[u8], work: &mut [u8]) -> u64 
 // Accept, then all readings in order, each checked, with the number that ends the list, and what next answers after that.
 fn list(sheet: &[u8], name: &[u8], mapping: &mut [u8], work: &mut [u8]) {
     put(work, RUBBISH);
-    say_number(reader::number(reader::accept(sheet, name, work)));
+    say_field(reader::number(reader::accept(sheet, name, work)));
     tidy_area(work, name.len());
     say(b":");
     let mut r = ask_first(sheet, name, mapping, work);
@@ -165,8 +119,8 @@ fn list(sheet: &[u8], name: &[u8], mapping: &mut [u8], work: &mut [u8]) {
 fn given(sheet: &[u8], name: &[u8], sequence: &[u8], mapping: &mut [u8], work: &mut [u8]) {
     put(mapping, RUBBISH);
     copy(mapping, sequence);
-    say_number(ask_check(sheet, name, mapping, work));
-    tidy(all(mapping, sequence.len(), mapping.len(), RUBBISH));
+    say_field(ask_check(sheet, name, mapping, work));
+    tidy(all_are(mapping, sequence.len(), RUBBISH));
     ask_next(sheet, name, mapping, work);
 }
 
@@ -174,11 +128,11 @@ fn given(sheet: &[u8], name: &[u8], sequence: &[u8], mapping: &mut [u8], work: &
 fn ask_accept(sheet: &[u8], name: &[u8], work: &mut [u8]) {
     put(work, RUBBISH);
     let r = reader::number(reader::accept(sheet, name, work));
-    say_number(r);
+    say_field(r);
     if r < 2 {
         tidy_area(work, name.len());
     } else {
-        tidy(all(work, 0, work.len(), RUBBISH));
+        tidy(all_are(work, 0, RUBBISH));
     }
 }
 
@@ -186,27 +140,27 @@ fn ask_accept(sheet: &[u8], name: &[u8], work: &mut [u8]) {
 fn refused_first(sheet: &[u8], name: &[u8], mapping: &mut [u8], work: &mut [u8]) {
     put(work, RUBBISH);
     put(mapping, RUBBISH);
-    say_number(reader::number(reader::first(sheet, name, mapping, work)));
-    tidy(all(mapping, 0, mapping.len(), 0));
-    tidy(all(work, 0, work.len(), RUBBISH));
+    say_field(reader::number(reader::first(sheet, name, mapping, work)));
+    tidy(all_are(mapping, 0, 0));
+    tidy(all_are(work, 0, RUBBISH));
 }
 
 // Next, likewise.
 fn refused_next(sheet: &[u8], name: &[u8], mapping: &mut [u8], work: &mut [u8]) {
     put(work, RUBBISH);
     put(mapping, RUBBISH);
-    say_number(reader::number(reader::next(sheet, name, mapping, work)));
-    tidy(all(mapping, 0, mapping.len(), 0));
-    tidy(all(work, 0, work.len(), RUBBISH));
+    say_field(reader::number(reader::next(sheet, name, mapping, work)));
+    tidy(all_are(mapping, 0, 0));
+    tidy(all_are(work, 0, RUBBISH));
 }
 
 // Check, which leaves its mapping.
 fn refused_check(sheet: &[u8], name: &[u8], mapping: &mut [u8], work: &mut [u8]) {
     put(work, RUBBISH);
     put(mapping, RUBBISH);
-    say_number(reader::number(reader::check(sheet, name, mapping, work)));
-    tidy(all(mapping, 0, mapping.len(), RUBBISH));
-    tidy(all(work, 0, work.len(), RUBBISH));
+    say_field(reader::number(reader::check(sheet, name, mapping, work)));
+    tidy(all_are(mapping, 0, RUBBISH));
+    tidy(all_are(work, 0, RUBBISH));
 }
 
 // All four calls.
@@ -217,27 +171,12 @@ fn ask_all(sheet: &[u8], name: &[u8], mapping: &mut [u8], work: &mut [u8]) {
     refused_check(sheet, name, mapping, work);
 }
 
-// Where the field at a place ends.
-fn field_end(line: &[u8], at: usize) -> usize
-    requires { ⌜ at ≤ length (now line) ⌝ }
-    ensures { λ r. ⌜ (at ≤ r) × (r ≤ length (now (line .entry))) ⌝ }
-{
-    let mut i = at;
-    while i < line.len() {
-        if line[i] == b' ' {
-            return i;
-        }
-        i += 1;
-    }
-    i
-}
-
 // Where the field after that begins.
 fn after_field(line: &[u8], at: usize) -> usize
     requires { ⌜ at ≤ length (now line) ⌝ }
     ensures { λ r. ⌜ r ≤ length (now (line .entry)) ⌝ }
 {
-    let e = field_end(line, at);
+    let e = end_of(line, at, b' ');
     if e < line.len() { e + 1 } else { e }
 }
 
@@ -249,7 +188,7 @@ fn field(line: &[u8], k: usize) -> &[u8] {
         at = after_field(line, at);
         j += 1;
     }
-    let e = field_end(line, at);
+    let e = end_of(line, at, b' ');
     &line[at..e]
 }
 
@@ -343,25 +282,10 @@ fn case_of(line: &[u8], sheet: &[u8], name: &[u8], mapping: &mut [u8], work: &mu
     ask_all(sheet, name, &mut mapping[0..m], &mut work[0..w]);
 }
 
-// Where a line that starts at a place ends.
-fn line_end(input: &[u8], at: usize) -> usize
-    requires { ⌜ at ≤ length (now input) ⌝ }
-    ensures { λ r. ⌜ (at ≤ r) × (r ≤ length (now (input .entry))) ⌝ }
-{
-    let mut i = at;
-    while i < input.len() {
-        if input[i] == b'\n' {
-            return i;
-        }
-        i += 1;
-    }
-    i
-}
-
 fn run(input: &[u8], sheet: &mut [u8], name: &mut [u8], mapping: &mut [u8], work: &mut [u8]) {
     let mut at = 0;
     while at < input.len() {
-        let e = line_end(input, at);
+        let e = end_of(input, at, b'\n');
         case(&input[at..e], sheet, name, mapping, work);
         at = e + 1;
     }

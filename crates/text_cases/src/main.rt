@@ -1,32 +1,16 @@
 // Runs the sheet call on each line of standard input, over buffers full of rubbish: every text case of document 01 and of the points decided.
 // It prints the front of the text, the number and the second number; a short sheet's bytes; and `not wiped` where a byte after the sheet is left.
-ghost use Prim.Native.Nat.{_≤_};
-ghost use lib.ListN.{length};
+use console::all_are;
+use console::end_of;
+use console::front;
+use console::say;
+use console::say_field;
+use console::wide;
 use libc::STDIN_FILENO;
 use libc::STDOUT_FILENO;
 use maker::SheetAnswer;
 
 const SHOWN: usize = 24;
-
-fn say(bytes: &[u8]) {
-    io::write_all(STDOUT_FILENO, bytes);
-}
-
-fn say_number(n: usize) {
-    say(b" ");
-    io::print_decimal(STDOUT_FILENO, n as u64);
-}
-
-fn wide(b: u8) -> u64 {
-    b as u64
-}
-
-fn front(bytes: &[u8]) -> &[u8] {
-    if bytes.len() <= SHOWN {
-        return bytes;
-    }
-    &bytes[..SHOWN]
-}
 
 fn dump(bytes: &[u8]) {
     let mut i = 0;
@@ -37,47 +21,33 @@ fn dump(bytes: &[u8]) {
     }
 }
 
-// Whether all bytes from a place on are zero.
-fn wiped(buffer: &[u8], from: usize) -> bool {
-    let mut i = from;
-    while i < buffer.len() {
-        if buffer[i] != 0 {
-            return false;
-        }
-        i += 1;
-    }
-    true
-}
-
 fn finish(buffer: &[u8], from: usize) {
-    if !wiped(buffer, from) {
+    if !all_are(buffer, from, 0) {
         say(b" not wiped");
     }
     say(b"\n");
 }
 
 fn made(sheet: &[u8], n: usize) {
-    say_number(0);
-    say_number(n);
+    say_field(0);
+    say_field(n as u64);
     if n <= SHOWN {
-        if n <= sheet.len() {
-            say(b":");
-            dump(&sheet[..n]);
-        }
+        say(b":");
+        dump(front(sheet, n));
     }
     finish(sheet, n);
 }
 
 fn report(text: &[u8], sheet: &mut [u8]) {
-    say(front(text));
+    say(front(text, SHOWN));
     let r = maker::make(text, sheet);
     match r {
         SheetAnswer::Made(n) => {
             made(sheet, n);
         }
         SheetAnswer::Refused(f) => {
-            say_number(f.number);
-            say_number(f.place);
+            say_field(f.number as u64);
+            say_field(f.place as u64);
             finish(sheet, 0);
         }
     }
@@ -88,25 +58,10 @@ fn case(text: &[u8]) {
     report(text, &mut sheet);
 }
 
-// Where the line ends that starts at a place.
-fn line_end(input: &[u8], from: usize) -> usize
-    requires { ⌜ from ≤ length (now input) ⌝ }
-    ensures { λ r. ⌜ (from ≤ r) × (r ≤ length (now (input .entry))) ⌝ }
-{
-    let mut i = from;
-    while i < input.len() {
-        if input[i] == b'\n' {
-            return i;
-        }
-        i += 1;
-    }
-    i
-}
-
 fn lines(input: &[u8]) {
     let mut i = 0;
     while i < input.len() {
-        let e = line_end(input, i);
+        let e = end_of(input, i, b'\n');
         case(&input[i..e]);
         i = e + 1;
     }

@@ -14,11 +14,11 @@ abbrev μ-loop : tie.MeasureT-loop
 loop-holds : tie.Need-loop-holds Inv-loop μ-loop
 loop-holds c = search needs
 
-print-next-requires : tie.Need-print-next-requires Inv-loop μ-loop
-print-next-requires c κs = search needs
+list-next-requires : tie.Need-list-next-requires Inv-loop μ-loop
+list-next-requires c κs = search needs
 
-print-end-requires : tie.Need-print-end-requires Inv-loop μ-loop
-print-end-requires c κs = search needs
+say-end-requires : tie.Need-say-end-requires Inv-loop μ-loop
+say-end-requires c κs = search needs
 
 same-length : tie.Need-same-length Inv-loop μ-loop
 same-length c = search needs
@@ -44,14 +44,14 @@ satchelram-next-requires c κs = search needs
 number-requires : tie.Need-number-requires Inv-loop μ-loop
 number-requires c κs = search needs
 
-slice-aggregate-print : tie.Need-slice-aggregate-print Inv-loop μ-loop
-slice-aggregate-print c = search needs
+slice-aggregate-say : tie.Need-slice-aggregate-say Inv-loop μ-loop
+slice-aggregate-say c = search needs
 
-print-requires : tie.Need-print-requires Inv-loop μ-loop
-print-requires c κs = search needs
+say-requires : tie.Need-say-requires Inv-loop μ-loop
+say-requires c κs = search needs
 
-print-end-requires-2 : tie.Need-print-end-requires-2 Inv-loop μ-loop
-print-end-requires-2 c κs = search needs
+say-end-requires-2 : tie.Need-say-end-requires-2 Inv-loop μ-loop
+say-end-requires-2 c κs = search needs
 
 same-length-3 : tie.Need-same-length-3 Inv-loop μ-loop
 same-length-3 c = search needs
@@ -78,8 +78,8 @@ list-on-spec =
     Inv-loop
     μ-loop
     loop-holds
-    print-next-requires
-    print-end-requires
+    list-next-requires
+    say-end-requires
     same-length
     same-length-2
     returns
@@ -88,9 +88,9 @@ list-on-spec =
     loop-again
     satchelram-next-requires
     number-requires
-    slice-aggregate-print
-    print-requires
-    print-end-requires-2
+    slice-aggregate-say
+    say-requires
+    say-end-requires-2
     same-length-3
     same-length-4
     returns-2

@@ -20,8 +20,8 @@ accept-requires c κs = search needs
 number-requires : tie.Need-number-requires Inv-loop μ-loop
 number-requires c κs = search needs
 
-say-number-requires : tie.Need-say-number-requires Inv-loop μ-loop
-say-number-requires c κs = search needs
+say-field-requires : tie.Need-say-field-requires Inv-loop μ-loop
+say-field-requires c κs = search needs
 
 tidy-area-requires : tie.Need-tidy-area-requires Inv-loop μ-loop
 tidy-area-requires c κs = search needs
@@ -77,7 +77,7 @@ list-spec =
     put-requires
     accept-requires
     number-requires
-    say-number-requires
+    say-field-requires
     tidy-area-requires
     slice-aggregate-say
     say-requires

@@ -1,16 +1,16 @@
-use Prim.Native.Nat.{_≤_, _-_}
+use Prim.Native.Nat.{_-_}
 use borrow.Author.Needs.{needs}
 use lib.ListN.{length}
-use Rattle.text_cases.proofs.line_end.Statement.{statement}
-use Rattle.text_cases.proofs.line_end.Tie as tie
+use Rattle.console.proofs.all_are.Statement.{statement}
+use Rattle.console.proofs.all_are.Tie as tie
 
 abbrev Inv-loop : tie.InvT-loop
-Inv-loop input from i₀ i =
-    (from ≤ i) × (i ≤ length input)
+Inv-loop bytes from byte i₀ i =
+    Unit {0}
 
 abbrev μ-loop : tie.MeasureT-loop
-μ-loop input from i₀ i =
-    length input - i
+μ-loop bytes from byte i₀ i =
+    length bytes - i
 
 loop-holds : tie.Need-loop-holds Inv-loop μ-loop
 loop-holds c = search needs
@@ -33,8 +33,8 @@ loop-again c = search needs
 returns-2 : tie.Need-returns-2 Inv-loop μ-loop
 returns-2 c = search needs
 
-pub line-end-spec : {M : Type 1} → statement M
-line-end-spec =
+pub all-are-spec : {M : Type 1} → statement M
+all-are-spec =
     tie.close
     (tie.spec
     Inv-loop

@@ -1,14 +1,16 @@
+use Prim.Native.Nat.{_≤_, _-_}
 use borrow.Author.Needs.{needs}
 use lib.ListN.{length}
-use Prim.Native.Nat.{_≤_, _-_}
-use Rattle.reader_cases.proofs.field_end.Statement.{statement}
-use Rattle.reader_cases.proofs.field_end.Tie as tie
+use Rattle.console.proofs.end_of.Statement.{statement}
+use Rattle.console.proofs.end_of.Tie as tie
 
 abbrev Inv-loop : tie.InvT-loop
-Inv-loop line at i₀ i = (i₀ ≤ i) × (i ≤ length line)
+Inv-loop bytes from mark i₀ i =
+    (from ≤ i) × (i ≤ length bytes)
 
 abbrev μ-loop : tie.MeasureT-loop
-μ-loop line at i₀ i = length line - i
+μ-loop bytes from mark i₀ i =
+    length bytes - i
 
 loop-holds : tie.Need-loop-holds Inv-loop μ-loop
 loop-holds c = search needs
@@ -31,8 +33,8 @@ loop-again c = search needs
 returns-2 : tie.Need-returns-2 Inv-loop μ-loop
 returns-2 c = search needs
 
-pub field-end-spec : {M : Type 1} → statement M
-field-end-spec =
+pub end-of-spec : {M : Type 1} → statement M
+end-of-spec =
     tie.close
     (tie.spec
     Inv-loop
