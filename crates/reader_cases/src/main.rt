@@ -19,9 +19,6 @@ use libc::STDIN_FILENO;
 // What a buffer holds before a call.
 const RUBBISH: u8 = 0xa5;
 
-// The row of a place.
-const ROW: usize = 64;
-
 // Fills a buffer.
 fn put(buffer: &mut [u8], b: u8) {
     let mut i = 0;
@@ -51,8 +48,8 @@ fn tidy(well: bool) {
 
 // After an answer that a search gave: the rows are zero and the rest of the area is as it was.
 fn tidy_area(work: &[u8], n: usize) {
-    if n < 256 {
-        let rows = ROW * (n + 1);
+    if n <= rules::NAME_LIMIT {
+        let rows = rules::ROW_SIZE * (n + 1);
         tidy(all_are(front(work, rows), 0, 0));
         tidy(all_are(work, rows, RUBBISH));
     }
