@@ -39,17 +39,13 @@ filled-none mapping = let e : length mapping - 0 ≡ length mapping = omega arit
 pub wiped-after : (n : ℕ) (mapping end : List ℕ) → drop n end ≡ drop n (wiped mapping) → drop n end ≡ replicate (length mapping - n) 0
 wiped-after n mapping end e = e ∙ drop-zeros n (length mapping)
 
--- the rest of a mapping `&mut mapping[n..]` was lent, and came back as zeros
-module _ (n : ℕ) (mapping ys : List ℕ) (fits : n ≤ length mapping) (e : ys ≡ wiped (take (length mapping - n) (drop n mapping))) where
-  abbrev pub back : List ℕ
-  back = take n mapping ++ (ys ++ drop (length mapping - n) (drop n mapping))
+-- a mapping whose rest `&mut mapping[n..]` was lent, and came back as ys
+abbrev pub back : ℕ → List ℕ → List ℕ → List ℕ
+back n mapping ys = take n mapping ++ (ys ++ drop (length mapping - n) (drop n mapping))
 
-  zeros : ys ≡ replicate (length mapping - n) 0
-  zeros = let l : length (take (length mapping - n) (drop n mapping)) ≡ length mapping - n = length-take-le (length mapping - n) (drop n mapping) (omega (arith, length-drop n mapping)) in e ∙ rw l refl
-
-  back-is : back ≡ take n mapping ++ ys
-  back-is = rw (drop-of-length-le (drop n mapping) {i = length mapping - n} (omega (arith, length-drop n mapping)), append-nil) refl
-
-  -- what stands in front, and zeros after it
-  pub rest-wiped : back ≡ filled mapping (take n mapping)
-  rest-wiped = back-is ∙ rw (zeros, length-take-le n mapping fits) refl
+-- as zeros: what stands in front, and zeros after it
+pub rest-wiped : (n : ℕ) (mapping ys : List ℕ) → n ≤ length mapping → ys ≡ wiped (take (length mapping - n) (drop n mapping)) → back n mapping ys ≡ filled mapping (take n mapping)
+rest-wiped n mapping ys fits e =
+    let l : length (take (length mapping - n) (drop n mapping)) ≡ length mapping - n = length-take-le (length mapping - n) (drop n mapping) (omega (arith, length-drop n mapping)) in
+    let d = drop-of-length-le (drop n mapping) {i = length mapping - n} (omega (arith, length-drop n mapping)) in
+    rw (d, append-nil, e, l, length-take-le n mapping fits) refl
