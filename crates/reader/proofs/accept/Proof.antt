@@ -40,20 +40,20 @@ same-length-2 c = search needs
 
 returns-2 : tie.Need-returns-2
 returns-2 c =
-    let wiped = c .before .before .before in
-    let searched = wiped .before .before .before .before in
+    let ended = c .before .before .before in
+    let searched = ended .before .before .before .before in
     let inside = searched .in-language in
-    accept-went (passed (searched .before .before)) (inside .last .1 .1 .0) (inside .ensures) (wiped .wipe-rows .ensures) (c .if1 .taken)
+    accept-went (passed (searched .before .before)) (inside .last .1 .1 .0) (inside .ensures) (ended .wipe-rows .ensures) (c .if1 .taken)
 
 same-length-3 : tie.Need-same-length-3
 same-length-3 c = search needs
 
 returns-3 : tie.Need-returns-3
 returns-3 c =
-    let wiped = c .before .before .before in
-    let searched = wiped .before .before .before .before in
+    let ended = c .before .before .before in
+    let searched = ended .before .before .before .before in
     let inside = searched .in-language in
-    accept-went (passed (searched .before .before)) (inside .last .1 .1 .0) (inside .ensures) (wiped .wipe-rows .ensures) (c .if1 .left)
+    accept-went (passed (searched .before .before)) (inside .last .1 .1 .0) (inside .ensures) (ended .wipe-rows .ensures) (c .if1 .left)
 
 pub accept-spec : {M : Type 1} → statement M
 accept-spec =

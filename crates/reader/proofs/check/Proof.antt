@@ -37,18 +37,18 @@ same-length-2 c = search needs
 
 returns-2 : tie.Need-returns-2
 returns-2 c =
-    let wiped = c .before .before .before in
-    let read = wiped .before .before in
-    check-went (passed (read .before)) (read .given-reading .ensures) (wiped .wipe-rows .ensures) (c .if1 .taken)
+    let ended = c .before .before .before in
+    let read = ended .before .before in
+    check-went (passed (read .before)) (read .given-reading .ensures) (ended .wipe-rows .ensures) (c .if1 .taken)
 
 same-length-3 : tie.Need-same-length-3
 same-length-3 c = search needs
 
 returns-3 : tie.Need-returns-3
 returns-3 c =
-    let wiped = c .before .before .before in
-    let read = wiped .before .before in
-    check-went (passed (read .before)) (read .given-reading .ensures) (wiped .wipe-rows .ensures) (c .if1 .left)
+    let ended = c .before .before .before in
+    let read = ended .before .before in
+    check-went (passed (read .before)) (read .given-reading .ensures) (ended .wipe-rows .ensures) (c .if1 .left)
 
 pub check-spec : {M : Type 1} → statement M
 check-spec =

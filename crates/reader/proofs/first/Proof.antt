@@ -1,17 +1,17 @@
 use borrow.Author.Needs.{needs}
 use Rattle.reader.proofs.Ends.{first-refused, first-went}
-use Rattle.reader.proofs.Tests.{Fit, fit, wiped-fit}
+use Rattle.reader.proofs.Tests.{Fit, fit}
 use native.Mathlib.Omega.{arith}
 use Rattle.reader.proofs.first.Statement.{statement}
 use Rattle.reader.proofs.first.Tie as tie
 
--- the call passed its tests
+-- the call passed its tests, which saw the mapping wiped
 passed :
     (c : tie.After-enum-told) →
-    let g = c .before .before .before .before .before .before .before .before .before .before .before .before .before .args in
-    Fit (g .sheet .now) (g .name .now) (g .mapping .now) (g .work .now)
-passed c =
-    wiped-fit (c .before .before .before .before .before .before .before .wipe-all .ensures) (fit (c .before .before .call-test .ensures) (c .enum-told .given .1))
+    let wiped = c .before .before .before .before .before .before .before in
+    let g = wiped .before .before .before .before .before .before .args in
+    Fit (g .sheet .now) (g .name .now) (wiped .wipe-all .last .0) (g .work .now)
+passed c = fit (c .before .before .call-test .ensures) (c .enum-told .given .1)
 
 wipe-all-requires : tie.Need-wipe-all-requires
 wipe-all-requires c κs = search needs
@@ -35,9 +35,7 @@ enum-told : tie.Need-enum-told
 enum-told c = search needs
 
 first-reading-requires : tie.Need-first-reading-requires
-first-reading-requires c κs =
-    let f = passed (c .before .before) in
-    (f .accepted, f .short, omega (arith, f .held, c .before .before .before .before .before .before .before .before .before .wipe-all .kept .0), f .room)
+first-reading-requires c κs = let f = passed (c .before .before) in (f .accepted, f .short, f .held, f .room)
 
 wipe-rows-requires : tie.Need-wipe-rows-requires
 wipe-rows-requires c κs =
@@ -52,13 +50,19 @@ same-length-4 c = search needs
 
 returns-2 : tie.Need-returns-2
 returns-2 c =
-    let wiped = c .before .before .before in
-    let searched = wiped .before .before .before .before .before .before in
-    let passed-at = searched .before .before .before in
-    let cleared = passed-at .before .before .before .before .before .before .before .wipe-all in
+    let ended = c .before .before .before in
+    let searched = ended .before .before .before .before .before .before in
+    let tested = searched .before .before .before in
     let first = searched .first-reading in
-    first-went (passed passed-at) (cleared .ensures) (first .last .1 .1 .0) (first .last .1 .1 .1 .0)
-    (omega (arith, cleared .kept .0, first .kept)) (first .ensures) (wiped .wipe-rows .ensures) (c .if1 .taken)
+    first-went
+    (tested .before .before .before .before .before .before .before .wipe-all .ensures)
+    (passed tested)
+    (first .last .1 .1 .0)
+    (first .last .1 .1 .1 .0)
+    (first .kept .1 .1 .0)
+    (first .ensures)
+    (ended .wipe-rows .ensures)
+    (c .if1 .taken)
 
 same-length-5 : tie.Need-same-length-5
 same-length-5 c = search needs
@@ -68,13 +72,19 @@ same-length-6 c = search needs
 
 returns-3 : tie.Need-returns-3
 returns-3 c =
-    let wiped = c .before .before .before in
-    let searched = wiped .before .before .before .before .before .before in
-    let passed-at = searched .before .before .before in
-    let cleared = passed-at .before .before .before .before .before .before .before .wipe-all in
+    let ended = c .before .before .before in
+    let searched = ended .before .before .before .before .before .before in
+    let tested = searched .before .before .before in
     let first = searched .first-reading in
-    first-went (passed passed-at) (cleared .ensures) (first .last .1 .1 .0) (first .last .1 .1 .1 .0)
-    (omega (arith, cleared .kept .0, first .kept)) (first .ensures) (wiped .wipe-rows .ensures) (c .if1 .left)
+    first-went
+    (tested .before .before .before .before .before .before .before .wipe-all .ensures)
+    (passed tested)
+    (first .last .1 .1 .0)
+    (first .last .1 .1 .1 .0)
+    (first .kept .1 .1 .0)
+    (first .ensures)
+    (ended .wipe-rows .ensures)
+    (c .if1 .left)
 
 pub first-spec : {M : Type 1} → statement M
 first-spec =

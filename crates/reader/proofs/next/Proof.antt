@@ -34,9 +34,7 @@ enum-told : tie.Need-enum-told
 enum-told c = search needs
 
 next-reading-requires : tie.Need-next-reading-requires
-next-reading-requires c κs =
-    let f = passed (c .before .before) in
-    (f .accepted, f .short, f .held, f .room)
+next-reading-requires c κs = let f = passed (c .before .before) in (f .accepted, f .short, f .held, f .room)
 
 wipe-rows-requires : tie.Need-wipe-rows-requires
 wipe-rows-requires c κs =
@@ -76,11 +74,20 @@ same-length-4 c = search needs
 returns-2 : tie.Need-returns-2
 returns-2 c =
     let kept = c .before .before .before .before .before in
-    let wiped = kept .before .before .before in
-    let read = wiped .before .before .before .before .before .before in
-    let next = read .next-reading in
-    next-went (passed (read .before .before .before)) (next .result) (next .last .1 .1 .0) (next .last .1 .1 .1 .0) (omega (arith, next .kept))
-    (next .ensures) (wiped .wipe-rows .ensures) (kept .kept-by .ensures) (c .before .before .before .wipe-all .ensures) (c .answer-of .ensures)
+    let ended = kept .before .before .before in
+    let searched = ended .before .before .before .before .before .before in
+    let next = searched .next-reading in
+    next-went
+    (passed (searched .before .before .before))
+    (next .result)
+    (next .last .1 .1 .0)
+    (next .last .1 .1 .1 .0)
+    (next .kept .1 .1 .0)
+    (next .ensures)
+    (ended .wipe-rows .ensures)
+    (kept .kept-by .ensures)
+    (c .before .before .before .wipe-all .ensures)
+    (c .answer-of .ensures)
 
 pub next-spec : {M : Type 1} → statement M
 next-spec =
