@@ -51,10 +51,7 @@ sub-wipe-all c =
     omega (arith, f .held, read .next-reading .kept, c .kept-by .ensures)
 
 part-wipe-all-start : tie.Need-part-wipe-all-start
-part-wipe-all-start c =
-    let read = c .before .before .before .before .before .before .before .before .before in
-    let f = passed (read .before .before .before) in
-    omega (arith, f .held, read .next-reading .kept, c .kept-by .ensures)
+part-wipe-all-start = sub-wipe-all
 
 part-wipe-all-end : tie.Need-part-wipe-all-end
 part-wipe-all-end c = search needs
