@@ -30,7 +30,7 @@ use Rattle.reader.specs.declared.Step.{Step}
 use Rattle.reader.specs.declared.Step.the-variants.{Found, NoMore, NoReading}
 use Rattle.reader.proofs.Settled.{pattern-of}
 use Rattle.reader.proofs.Tests.{Fit, refusal, accept-grounds, wiped-grounds, wiped-fit}
-use Rattle.reader.proofs.Areas.{cleared-whole, filled-whole, filled-none, wiped-after, back, rest-wiped}
+use Rattle.reader.proofs.Areas.{cleared-whole, filled-whole, filled-none, back, rest-wiped}
 
 -- what a test that decides it says of A
 holds : {b : Bool} {A : Type 0} → Decides b A → b ≡ true → A
@@ -52,9 +52,7 @@ module _ (sheet name mapping work : List ℕ) (P : Pattern) (x : standsFor sheet
 
   first-is : (end : List ℕ) → length name ≤ length mapping → length end ≡ length mapping → (b : Bool) → FirstMade P name (wiped mapping) end b
       → FirstWent sheet name mapping work (endOf (said b) end (cleared name work))
-  first-is end h l true (a, t, d) =
-      rw (filled-whole (length name) mapping _ end h l t (wiped-after (length name) mapping end d))
-      (found x (first-right P n name (holds (itself (accepts P name)) a)))
+  first-is end h l true (a, t, d) = rw (filled-whole mapping h l t d) (found x (first-right P n name (holds (itself (accepts P name)) a)))
   first-is end h l false (a, m) = rw m (absent x (first-none P n name (fails (itself (accepts P name)) a)))
 
   read-is : isReading P name (given name mapping) ≡ true → Reading P name (given name mapping)
@@ -90,9 +88,9 @@ module _ {sheet name work : List ℕ} where
   pub accept-went : {end : List ℕ} {r b : Bool} → Fit sheet name name work → (rows : List ℕ)
       → ((P : Pattern) → standsFor sheet ≡ some P → r ≡ accepts P name) × (rowAt rows (length name) ≡ rowAt work (length name))
       → end ≡ cleared name rows → r ≡ b → AcceptCall sheet name work (endOf (said b) [] end)
-  accept-went {end} {b = b} f rows (is, keeps) c t =
+  accept-went {b = b} f rows (is, keeps) c t =
       let (P, x, n) = pattern-of sheet (f .accepted) in
-      rw (cleared-whole name work rows end keeps c)
+      rw (cleared-whole name work rows keeps c)
       (answered (sym (accept-grounds sheet name work) ∙ f .passed) (accept-is sheet name [] work P x n b (sym (is P x) ∙ t)))
 
 module _ {sheet name mapping work : List ℕ} where
@@ -104,12 +102,12 @@ module _ {sheet name mapping work : List ℕ} where
   pub first-went : {wipe area : List ℕ} {r b : Bool} → wipe ≡ wiped mapping → Fit sheet name wipe work → (end rows : List ℕ) → length end ≡ length wipe
       → ((P : Pattern) → standsFor sheet ≡ some P → FirstMade P name wipe end r) × (rowAt rows (length name) ≡ rowAt work (length name))
       → area ≡ cleared name rows → r ≡ b → FirstCall sheet name mapping work (endOf (said b) end area)
-  first-went {area = area} {b = b} w g end rows l (made, keeps) c t =
+  first-went {b = b} w g end rows l (made, keeps) c t =
       let f : Fit sheet name mapping work = wiped-fit w g in
       let (P, x, n) = pattern-of sheet (f .accepted) in
       let found = (rw (w, t) at made) P x in
       let long = l ∙ ap length w ∙ length-replicate (length mapping) 0 in
-      rw (cleared-whole name work rows area keeps c) (answered (f .passed) (first-is sheet name mapping work P x n end (f .held) long b found))
+      rw (cleared-whole name work rows keeps c) (answered (f .passed) (first-is sheet name mapping work P x n end (f .held) long b found))
 
   -- NEXT
   pub next-refused : {t : Test} {a b : Answer} {end : List ℕ} → reasonOf t ≡ firstOf (mappingGrounds sheet name mapping work) → t ≡ Refused a
@@ -121,10 +119,10 @@ module _ {sheet name mapping work : List ℕ} where
       → ((P : Pattern) → standsFor sheet ≡ some P → NextMade P name mapping after s) × (rowAt rows (length name) ≡ rowAt work (length name))
       → area ≡ cleared name rows → (k ≡ keptBy s (length name)) × (k ≤ length name) → zeros ≡ wiped (take (length after - k) (drop k after))
       → a ≡ answerOf s → NextCall sheet name mapping work (endOf a (back k after zeros) area)
-  next-went {area} {zeros} {k} f s after rows l (made, keeps) c (e, h) z t =
+  next-went {k = k} f s after rows l (made, keeps) c (e, h) z t =
       let (P, x, n) = pattern-of sheet (f .accepted) in
       let inside : k ≤ length after = omega (arith, f .held) in
-      rw (cleared-whole name work rows area keeps c, rest-wiped k after zeros inside z, e, t)
+      rw (cleared-whole name work rows keeps c, rest-wiped after inside z, e, t)
       (answered (f .passed) (next-is sheet name mapping work P x n after l s (made P x)))
 
   -- CHECK

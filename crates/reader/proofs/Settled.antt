@@ -1,7 +1,7 @@
 -- The outcomes of the four name calls are settled: any two ends are equal, and every input has one.
 use mathlib.Core.Path.{_≡_, refl, ap, sym, _∙_}
 use mathlib.Core.Option.{Option, none, some}
-use mathlib.Core.List.{List, [], _++_}
+use mathlib.Core.List.{List, []}
 use Prim.Native.Nat.{ℕ, _+_}
 use Rattle.rules.specs.Limits.{wiped, filled, stored}
 use Rattle.rules.specs.Numbers.{done}

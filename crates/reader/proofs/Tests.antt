@@ -1,12 +1,13 @@
 -- The tests before a search, in document 01's order.
 use mathlib.Core.Path.{_≡_, refl, ap, sym, _∙_}
+use mathlib.Core.Bool.{false}
 use mathlib.Core.Option.{Option, none, some}
 use mathlib.Core.List.{List, [], _∷_, _++_}
-use Prim.Native.Nat.{ℕ, _*_, _≤_}
+use Prim.Native.Nat.{ℕ, _*_, _<_, _≤_}
 use native.Mathlib.Omega.{arith}
 use lib.Dec.{ltb}
 use lib.ListN.{length, length-replicate}
-use borrow.Author.Tests.{ltb-false, le-ltb}
+use borrow.Author.Tests.{ltb-false, lt-ltb, le-ltb}
 use Rattle.rules.specs.Limits.{nameLimit, entrySize, areaFor, wiped}
 use Rattle.rules.specs.Numbers.{longName, shortMapping, shortWork}
 use Rattle.rules.specs.Refusal.{because, firstOf}
@@ -24,14 +25,33 @@ use Rattle.reader.specs.declared.Test.{Test}
 use Rattle.reader.specs.declared.Test.the-variants.{Passed}
 use Rattle.reader.specs.declared.Test.the-variants as tests
 
-module _ (sheet : List ℕ) (gs : List (Option ℕ)) where
+-- 30, 31 and 32
+module _ (name mapping work : List ℕ) where
+  pub name-long : nameLimit < length name → some longName ≡ firstOf (nameGrounds name mapping work)
+  name-long h = rw (lt-ltb nameLimit (length name) h) refl
+
+  module _ (short : length name ≤ nameLimit) where
+    pub mapping-short : length mapping < length name → some shortMapping ≡ firstOf (nameGrounds name mapping work)
+    mapping-short h = rw (le-ltb nameLimit (length name) short, lt-ltb (length mapping) (entrySize * length name) (omega arith)) refl
+
+    module _ (held : length name ≤ length mapping) where
+      enough : ltb (length mapping) (entrySize * length name) ≡ false
+      enough = le-ltb (length mapping) (entrySize * length name) (omega arith)
+
+      pub work-short : length work < areaFor name → some shortWork ≡ firstOf (nameGrounds name mapping work)
+      work-short h = rw (le-ltb nameLimit (length name) short, enough, lt-ltb (length work) (areaFor name) h) refl
+
+      pub name-fits : areaFor name ≤ length work → none ≡ firstOf (nameGrounds name mapping work)
+      name-fits h = rw (le-ltb nameLimit (length name) short, enough, le-ltb (length work) (areaFor name) h) refl
+
+module _ {s : SheetTest} (sheet : List ℕ) (gs : List (Option ℕ)) where
   -- the sheet's own refusal comes first
-  pub sheet-refused : (s : SheetTest) (f : SheetFault) → s ≡ Refused f → refusalOf s ≡ sheetRefusal sheet → some (faultNumber f) ≡ firstOf (sheetGrounds sheet ++ gs)
-  sheet-refused s f k e = sym (first-part (sheetGrounds sheet) gs (faultNumber f) (sym e ∙ rw k refl))
+  pub sheet-refused : {f : SheetFault} → s ≡ Refused f → refusalOf s ≡ sheetRefusal sheet → some (faultNumber f) ≡ firstOf (sheetGrounds sheet ++ gs)
+  sheet-refused {f} k e = sym (first-part (sheetGrounds sheet) gs (faultNumber f) (sym e ∙ rw k refl))
 
   -- then the others
-  pub sheet-passed : (s : SheetTest) → s ≡ Accepted → refusalOf s ≡ sheetRefusal sheet → (r : Option ℕ) → r ≡ firstOf gs → r ≡ firstOf (sheetGrounds sheet ++ gs)
-  sheet-passed s a e r f = f ∙ sym (later-part (sheetGrounds sheet) gs (sym e ∙ rw a refl))
+  pub sheet-passed : {r : Option ℕ} → s ≡ Accepted → refusalOf s ≡ sheetRefusal sheet → r ≡ firstOf gs → r ≡ firstOf (sheetGrounds sheet ++ gs)
+  sheet-passed a e f = f ∙ sym (later-part (sheetGrounds sheet) gs (sym e ∙ rw a refl))
 
 -- the answer that refuses is the first ground's
 pub refusal : {g : Option ℕ} {t : Test} {a : Answer} → reasonOf t ≡ g → t ≡ tests.Refused a → g ≡ some (numberOf a)

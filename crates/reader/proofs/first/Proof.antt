@@ -54,15 +54,8 @@ returns-2 c =
     let searched = ended .before .before .before .before .before .before in
     let tested = searched .before .before .before in
     let first = searched .first-reading in
-    first-went
-    (tested .before .before .before .before .before .before .before .wipe-all .ensures)
-    (passed tested)
-    (first .last .1 .1 .0)
-    (first .last .1 .1 .1 .0)
-    (first .kept .1 .1 .0)
-    (first .ensures)
-    (ended .wipe-rows .ensures)
-    (c .if1 .taken)
+    first-went (tested .before .before .before .before .before .before .before .wipe-all .ensures) (passed tested) (first .last .1 .1 .0) (first .last .1 .1 .1 .0)
+    (first .kept .1 .1 .0) (first .ensures) (ended .wipe-rows .ensures) (c .if1 .taken)
 
 same-length-5 : tie.Need-same-length-5
 same-length-5 c = search needs
@@ -76,15 +69,8 @@ returns-3 c =
     let searched = ended .before .before .before .before .before .before in
     let tested = searched .before .before .before in
     let first = searched .first-reading in
-    first-went
-    (tested .before .before .before .before .before .before .before .wipe-all .ensures)
-    (passed tested)
-    (first .last .1 .1 .0)
-    (first .last .1 .1 .1 .0)
-    (first .kept .1 .1 .0)
-    (first .ensures)
-    (ended .wipe-rows .ensures)
-    (c .if1 .left)
+    first-went (tested .before .before .before .before .before .before .before .wipe-all .ensures) (passed tested) (first .last .1 .1 .0) (first .last .1 .1 .1 .0)
+    (first .kept .1 .1 .0) (first .ensures) (ended .wipe-rows .ensures) (c .if1 .left)
 
 pub first-spec : {M : Type 1} → statement M
 first-spec =

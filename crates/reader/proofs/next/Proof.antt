@@ -28,7 +28,9 @@ same-length-2 : tie.Need-same-length-2
 same-length-2 c = search needs
 
 returns : tie.Need-returns
-returns c = next-refused (c .before .before .before .before .before .before .before .call-test .ensures) (c .before .before .before .before .before .t .given .1) (c .before .before .refuse .ensures)
+returns c =
+    let tested = c .before .before .before .before .before .before .before in
+    next-refused (tested .call-test .ensures) (c .before .before .before .before .before .t .given .1) (c .before .before .refuse .ensures)
 
 enum-told : tie.Need-enum-told
 enum-told c = search needs
@@ -74,17 +76,8 @@ returns-2 c =
     let ended = kept .before .before .before in
     let searched = ended .before .before .before .before .before .before in
     let next = searched .next-reading in
-    next-went
-    (passed (searched .before .before .before))
-    (next .result)
-    (next .last .1 .1 .0)
-    (next .last .1 .1 .1 .0)
-    (next .kept .1 .1 .0)
-    (next .ensures)
-    (ended .wipe-rows .ensures)
-    (kept .kept-by .ensures)
-    (c .before .before .before .wipe-all .ensures)
-    (c .answer-of .ensures)
+    next-went (passed (searched .before .before .before)) (next .result) (next .last .1 .1 .0) (next .last .1 .1 .1 .0) (next .kept .1 .1 .0)
+    (next .ensures) (ended .wipe-rows .ensures) (kept .kept-by .ensures) (c .before .before .before .wipe-all .ensures) (c .answer-of .ensures)
 
 pub next-spec : {M : Type 1} → statement M
 next-spec =

@@ -3,7 +3,6 @@ use Rattle.bits.proofs.Stores.{zeros-empty}
 use Rattle.reader.proofs.Searches.{reading-told}
 use borrow.Author.Tests.{not-true, not-false}
 use mathlib.Core.Path.{refl, sym, _∙_}
-use native.Mathlib.Omega.{arith}
 use Rattle.reader.proofs.next_reading.Statement.{statement}
 use Rattle.reader.proofs.next_reading.Tie as tie
 
