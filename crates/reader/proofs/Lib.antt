@@ -3,3 +3,4 @@ pub mod Answers
 pub mod Tests
 pub mod Areas
 pub mod Ends
+pub mod Searches

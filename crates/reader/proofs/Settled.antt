@@ -1,7 +1,7 @@
 -- The outcomes of the four name calls are settled: any two ends are equal, and every input has one.
 use mathlib.Core.Path.{_≡_, refl, ap, sym, _∙_}
 use mathlib.Core.Option.{Option, none, some}
-use mathlib.Core.List.{List, [], _++_}
+use mathlib.Core.List.{List, []}
 use Prim.Native.Nat.{ℕ, _+_}
 use Rattle.rules.specs.Limits.{wiped, filled, stored}
 use Rattle.rules.specs.Numbers.{done}
@@ -15,11 +15,15 @@ use Rattle.language.proofs.Order.{least-unique}
 use Rattle.language.proofs.Decides.{itself, either}
 use Rattle.language.proofs.Search.{Next, moved, stuck}
 use Rattle.language.proofs.Computed.{accepts-decides, reading-decides, first-right, first-none, next-right}
-use Rattle.sheet.specs.Refusals.{sheetGrounds}
+use Rattle.sheet.specs.Refusals.{sheetGrounds, sheetRefusal}
 use Rattle.sheet.specs.Stands.{standsFor}
 use Rattle.sheet.proofs.Accepted.{accepted-meant, standing}
 use Rattle.reader.specs.Refusals.{nameGrounds, mappingGrounds, bareGrounds, acceptGrounds}
 use Rattle.reader.specs.Outcome.{End, refusedWith, answeredWith, given, AcceptWent, accepted, notIn, AcceptCall, FirstWent, found, absent, FirstCall, NextWent, foundNext, noMore, noReading, NextCall, CheckWent, right, wrong, CheckCall}
+
+-- a sheet that is not refused stands for a pattern numbered from 1
+pub pattern-of : (sheet : List ℕ) → sheetRefusal sheet ≡ none → (P : Pattern) × (standsFor sheet ≡ some P) × Numbered 1 (1 + size (P .tree)) (P .tree)
+pattern-of sheet e = let (P, m) = accepted-meant sheet e in (P, m .stands, standing sheet P (m .stands) .numbered)
 
 module _ (sheet name mapping work : List ℕ) where
   same-pattern : {P Q : Pattern} → standsFor sheet ≡ some P → standsFor sheet ≡ some Q → P ≡ Q
@@ -68,18 +72,12 @@ module _ (sheet name mapping work : List ℕ) where
   check-settled = settled check-same
 
   -- EVERY INPUT HAS ONE
-  -- a sheet that is not refused stands for a pattern numbered from 1
-  pub pattern-of : (gs : List (Option ℕ)) → firstOf (sheetGrounds sheet ++ gs) ≡ none → (P : Pattern) × (standsFor sheet ≡ some P) × Numbered 1 (1 + size (P .tree)) (P .tree)
-  pattern-of gs e =
-      let (P, m) = accepted-meant sheet (front-part (sheetGrounds sheet) gs e) in
-      (P, m .stands, standing sheet P (m .stands) .numbered)
-
   pub accept-ends : (s : End) × AcceptCall sheet name work s
   accept-ends = ends (firstOf (acceptGrounds sheet name work)) (refusedWith [] work) (AcceptWent sheet name work) go
     where
       go : firstOf (acceptGrounds sheet name work) ≡ none → (s : End) × AcceptWent sheet name work s
       go e =
-          let (P, x, n) = pattern-of (bareGrounds name work) e in
+          let (P, x, n) = pattern-of sheet (front-part (sheetGrounds sheet) (bareGrounds name work) e) in
           either (accepts P name) (accepts-decides P n name) (λ d. (_, accepted x d)) (λ d. (_, notIn x d))
 
   pub first-ends : (s : End) × FirstCall sheet name mapping work s
@@ -87,7 +85,7 @@ module _ (sheet name mapping work : List ℕ) where
     where
       go : firstOf (mappingGrounds sheet name mapping work) ≡ none → (s : End) × FirstWent sheet name mapping work s
       go e =
-          let (P, x, n) = pattern-of (nameGrounds name mapping work) e in
+          let (P, x, n) = pattern-of sheet (front-part (sheetGrounds sheet) (nameGrounds name mapping work) e) in
           either (accepts P name) (itself (accepts P name)) (λ h. (_, found x (first-right P n name h))) (λ h. (_, absent x (first-none P n name h)))
 
   pub next-ends : (s : End) × NextCall sheet name mapping work s
@@ -100,7 +98,7 @@ module _ (sheet name mapping work : List ℕ) where
 
       go : firstOf (mappingGrounds sheet name mapping work) ≡ none → (s : End) × NextWent sheet name mapping work s
       go e =
-          let (P, x, n) = pattern-of (nameGrounds name mapping work) e in
+          let (P, x, n) = pattern-of sheet (front-part (sheetGrounds sheet) (nameGrounds name mapping work) e) in
           let w = given name mapping in
           either (isReading P name w) (reading-decides P n name w) (λ g. at P x g (nextReading P name w) (next-right P n name w g)) (λ g. (_, noReading x g))
 
@@ -109,5 +107,5 @@ module _ (sheet name mapping work : List ℕ) where
     where
       go : firstOf (mappingGrounds sheet name mapping work) ≡ none → (s : End) × CheckWent sheet name mapping work s
       go e =
-          let (P, x, n) = pattern-of (nameGrounds name mapping work) e in
+          let (P, x, n) = pattern-of sheet (front-part (sheetGrounds sheet) (nameGrounds name mapping work) e) in
           either (isReading P name (given name mapping)) (reading-decides P n name (given name mapping)) (λ g. (_, right x g)) (λ g. (_, wrong x g))

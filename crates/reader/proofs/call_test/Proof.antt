@@ -13,9 +13,7 @@ enum-known-s c = search needs
 returns : tie.Need-returns
 returns c =
     let g = c .before .before .before .before .before .before .before .before .args in
-    let s = c .before .s .given in
-    let test = c .before .before .before .test in
-    sheet-refused (g .sheet .now) (nameGrounds (g .name .now) (g .mapping .now) (g .work .now)) (test .result) (s .0 .0) (s .1) (test .ensures)
+    sheet-refused (g .sheet .now) (nameGrounds (g .name .now) (g .mapping .now) (g .work .now)) (c .before .s .given .1) (c .before .before .before .test .ensures)
 
 enum-told : tie.Need-enum-told
 enum-told c = search needs
@@ -26,8 +24,7 @@ name-test-requires c κs = search needs
 returns-2 : tie.Need-returns-2
 returns-2 c =
     let g = c .before .before .before .before .before .before .before .before .args in
-    let test = c .before .before .before .test in
-    sheet-passed (g .sheet .now) (nameGrounds (g .name .now) (g .mapping .now) (g .work .now)) (test .result) (c .before .enum-told .given .1) (test .ensures) _ (c .name-test .ensures)
+    sheet-passed (g .sheet .now) (nameGrounds (g .name .now) (g .mapping .now) (g .work .now)) (c .before .enum-told .given .1) (c .before .before .before .test .ensures) (c .name-test .ensures)
 
 pub call-test-spec : {M : Type 1} → statement M
 call-test-spec =

@@ -1,13 +1,15 @@
 use borrow.Author.Needs.{needs}
-use Rattle.reader.proofs.Ends.{check-refused, check-yes, check-no}
-use Rattle.reader.proofs.Tests.{mapping-fit}
-use Rattle.reader.specs.Refusals.{mappingGrounds}
-use Rattle.reader.specs.Made.{reasonOf}
-use Rattle.rules.specs.Refusal.{firstOf}
-use mathlib.Core.Option.{none}
-use mathlib.Core.Path.{ap, _≡_, sym, _∙_}
+use Rattle.reader.proofs.Ends.{check-refused, check-went}
+use Rattle.reader.proofs.Tests.{Fit, fit}
 use Rattle.reader.proofs.check.Statement.{statement}
 use Rattle.reader.proofs.check.Tie as tie
+
+-- the call passed its tests
+passed :
+    (c : tie.After-enum-told) →
+    let g = c .before .before .before .before .before .before .before .before .args in
+    Fit (g .sheet .now) (g .name .now) (g .mapping .now) (g .work .now)
+passed c = fit (c .before .before .call-test .ensures) (c .enum-told .given .1)
 
 call-test-requires : tie.Need-call-test-requires
 call-test-requires c κs = search needs
@@ -19,44 +21,34 @@ same-length : tie.Need-same-length
 same-length c = search needs
 
 returns : tie.Need-returns
-returns c = check-refused (c .before .before .before .before .before .before .before .before .before .args .sheet .now) (c .before .before .before .before .before .before .before .before .before .args .name .now) (c .before .before .before .before .before .before .before .before .before .args .mapping .now) (c .before .before .before .before .before .before .before .before .before .args .work .now) (c .before .t .given .0 .0) (sym (ap reasonOf (c .before .t .given .1)) ∙ c .before .before .before .call-test .ensures)
+returns c = check-refused (c .before .before .before .call-test .ensures) (c .before .t .given .1)
 
 enum-told : tie.Need-enum-told
 enum-told c = search needs
 
 given-reading-requires : tie.Need-given-reading-requires
-given-reading-requires c κs =
-    let g = c .before .before .before .before .before .before .before .before .args in
-    let p : firstOf (mappingGrounds (g .sheet .now) (g .name .now) (g .mapping .now) (g .work .now)) ≡ none = sym (c .before .before .call-test .ensures) ∙ ap reasonOf (c .enum-told .given .1) in
-    let f = mapping-fit (g .sheet .now) (g .name .now) (g .mapping .now) (g .work .now) p in
-    (f .0 .accepted, f .1)
+given-reading-requires c κs = let f = passed c in (f .accepted, f .held)
 
 wipe-rows-requires : tie.Need-wipe-rows-requires
-wipe-rows-requires c κs =
-    let g = c .before .before .before .before .before .before .before .before .before .before .args in
-    let p : firstOf (mappingGrounds (g .sheet .now) (g .name .now) (g .mapping .now) (g .work .now)) ≡ none = sym (c .before .before .before .before .call-test .ensures) ∙ ap reasonOf (c .before .before .enum-told .given .1) in
-    let f = mapping-fit (g .sheet .now) (g .name .now) (g .mapping .now) (g .work .now) p in
-    (f .0 .short, f .0 .room)
+wipe-rows-requires c κs = let f = passed (c .before .before) in (f .short, f .room)
 
 same-length-2 : tie.Need-same-length-2
 same-length-2 c = search needs
 
 returns-2 : tie.Need-returns-2
 returns-2 c =
-    let g = c .before .before .before .before .before .before .before .before .before .before .before .before .before .before .args in
-    let p : firstOf (mappingGrounds (g .sheet .now) (g .name .now) (g .mapping .now) (g .work .now)) ≡ none = sym (c .before .before .before .before .before .before .before .before .call-test .ensures) ∙ ap reasonOf (c .before .before .before .before .before .before .enum-told .given .1) in
-    let f = mapping-fit (g .sheet .now) (g .name .now) (g .mapping .now) (g .work .now) p in
-    check-yes (g .sheet .now) (g .name .now) (g .mapping .now) (g .work .now) (c .before .before .before .before .before .given-reading .result) (c .before .before .before .wipe-rows .last .0) p (c .before .before .before .before .before .given-reading .ensures) (c .before .before .before .wipe-rows .ensures) (c .if1 .taken)
+    let ended = c .before .before .before in
+    let read = ended .before .before in
+    check-went (passed (read .before)) (read .given-reading .ensures) (ended .wipe-rows .ensures) (c .if1 .taken)
 
 same-length-3 : tie.Need-same-length-3
 same-length-3 c = search needs
 
 returns-3 : tie.Need-returns-3
 returns-3 c =
-    let g = c .before .before .before .before .before .before .before .before .before .before .before .before .before .before .args in
-    let p : firstOf (mappingGrounds (g .sheet .now) (g .name .now) (g .mapping .now) (g .work .now)) ≡ none = sym (c .before .before .before .before .before .before .before .before .call-test .ensures) ∙ ap reasonOf (c .before .before .before .before .before .before .enum-told .given .1) in
-    let f = mapping-fit (g .sheet .now) (g .name .now) (g .mapping .now) (g .work .now) p in
-    check-no (g .sheet .now) (g .name .now) (g .mapping .now) (g .work .now) (c .before .before .before .before .before .given-reading .result) (c .before .before .before .wipe-rows .last .0) p (c .before .before .before .before .before .given-reading .ensures) (c .before .before .before .wipe-rows .ensures) (c .if1 .left)
+    let ended = c .before .before .before in
+    let read = ended .before .before in
+    check-went (passed (read .before)) (read .given-reading .ensures) (ended .wipe-rows .ensures) (c .if1 .left)
 
 pub check-spec : {M : Type 1} → statement M
 check-spec =

@@ -1,16 +1,17 @@
 use borrow.Author.Needs.{needs}
-use Rattle.reader.proofs.Ends.{first-refused, wiped-grounds, first-yes, first-no}
-use Rattle.rules.specs.Limits.{wiped}
-use Rattle.reader.proofs.Tests.{mapping-fit}
-use Rattle.reader.specs.Refusals.{mappingGrounds}
-use Rattle.reader.proofs.Areas.{cleared-whole}
-use Rattle.reader.specs.Made.{reasonOf}
-use Rattle.rules.specs.Refusal.{firstOf}
-use mathlib.Core.Option.{none}
-use mathlib.Core.Path.{ap, _≡_, sym, _∙_}
+use Rattle.reader.proofs.Ends.{first-refused, first-went}
+use Rattle.reader.proofs.Tests.{Fit, fit}
 use native.Mathlib.Omega.{arith}
 use Rattle.reader.proofs.first.Statement.{statement}
 use Rattle.reader.proofs.first.Tie as tie
+
+-- the call passed its tests, which saw the mapping wiped
+passed :
+    (c : tie.After-enum-told) →
+    let wiped = c .before .before .before .before .before .before .before in
+    let g = wiped .before .before .before .before .before .before .args in
+    Fit (g .sheet .now) (g .name .now) (wiped .wipe-all .last .0) (g .work .now)
+passed c = fit (c .before .before .call-test .ensures) (c .enum-told .given .1)
 
 wipe-all-requires : tie.Need-wipe-all-requires
 wipe-all-requires c κs = search needs
@@ -28,28 +29,18 @@ same-length-2 : tie.Need-same-length-2
 same-length-2 c = search needs
 
 returns : tie.Need-returns
-returns c =
-    let g = c .before .before .before .before .before .before .before .before .before .before .before .before .before .before .args in
-    first-refused (g .sheet .now) (g .name .now) (g .mapping .now) (g .work .now) (c .before .t .given .0 .0) (c .before .before .before .before .before .before .before .before .wipe-all .last .0) (c .before .before .before .before .before .before .before .before .wipe-all .ensures) (rw (c .before .before .before .before .before .before .before .before .wipe-all .ensures) at (sym (ap reasonOf (c .before .t .given .1)) ∙ c .before .before .before .call-test .ensures) ∙ wiped-grounds (g .sheet .now) (g .name .now) (g .mapping .now) (g .work .now))
+returns c = first-refused (c .before .before .before .before .before .before .before .before .wipe-all .ensures) (c .before .before .before .call-test .ensures) (c .before .t .given .1)
 
 enum-told : tie.Need-enum-told
 enum-told c = search needs
 
 first-reading-requires : tie.Need-first-reading-requires
-first-reading-requires c κs =
-    let g = c .before .before .before .before .before .before .before .before .before .before .before .before .before .before .before .args in
-    let q : firstOf (mappingGrounds (g .sheet .now) (g .name .now) (wiped (g .mapping .now)) (g .work .now)) ≡ none = rw (c .before .before .before .before .before .before .before .before .before .wipe-all .ensures) at (sym (c .before .before .before .before .call-test .ensures) ∙ ap reasonOf (c .before .before .enum-told .given .1)) in
-    let p = sym (wiped-grounds (g .sheet .now) (g .name .now) (g .mapping .now) (g .work .now)) ∙ q in
-    let f = mapping-fit (g .sheet .now) (g .name .now) (g .mapping .now) (g .work .now) p in
-    (f .0 .accepted, f .0 .short, omega (arith, f .1, c .before .before .before .before .before .before .before .before .before .wipe-all .kept .0), f .0 .room)
+first-reading-requires c κs = let f = passed (c .before .before) in (f .accepted, f .short, f .held, f .room)
 
 wipe-rows-requires : tie.Need-wipe-rows-requires
 wipe-rows-requires c κs =
-    let g = c .before .before .before .before .before .before .before .before .before .before .before .before .before .before .before .before .before .before .before .before .before .args in
-    let q : firstOf (mappingGrounds (g .sheet .now) (g .name .now) (wiped (g .mapping .now)) (g .work .now)) ≡ none = rw (c .before .before .before .before .before .before .before .before .before .before .before .before .before .before .before .wipe-all .ensures) at (sym (c .before .before .before .before .before .before .before .before .before .before .call-test .ensures) ∙ ap reasonOf (c .before .before .before .before .before .before .before .before .enum-told .given .1)) in
-    let p = sym (wiped-grounds (g .sheet .now) (g .name .now) (g .mapping .now) (g .work .now)) ∙ q in
-    let f = mapping-fit (g .sheet .now) (g .name .now) (g .mapping .now) (g .work .now) p in
-    (f .0 .short, omega (arith, f .0 .room, c .before .before .before .before .before .first-reading .kept))
+    let f = passed (c .before .before .before .before .before .before .before .before) in
+    (f .short, omega (arith, f .room, c .before .before .before .before .before .first-reading .kept))
 
 same-length-3 : tie.Need-same-length-3
 same-length-3 c = search needs
@@ -59,11 +50,12 @@ same-length-4 c = search needs
 
 returns-2 : tie.Need-returns-2
 returns-2 c =
-    let g = c .before .before .before .before .before .before .before .before .before .before .before .before .before .before .before .before .before .before .before .before .before .before .before .before .before .args in
-    let q : firstOf (mappingGrounds (g .sheet .now) (g .name .now) (wiped (g .mapping .now)) (g .work .now)) ≡ none = rw (c .before .before .before .before .before .before .before .before .before .before .before .before .before .before .before .before .before .before .before .wipe-all .ensures) at (sym (c .before .before .before .before .before .before .before .before .before .before .before .before .before .before .call-test .ensures) ∙ ap reasonOf (c .before .before .before .before .before .before .before .before .before .before .before .before .enum-told .given .1)) in
-    let p = sym (wiped-grounds (g .sheet .now) (g .name .now) (g .mapping .now) (g .work .now)) ∙ q in
-    let f = mapping-fit (g .sheet .now) (g .name .now) (g .mapping .now) (g .work .now) p in
-    first-yes (g .sheet .now) (g .name .now) (g .mapping .now) (g .work .now) (c .before .before .before .before .before .before .before .before .before .first-reading .last .1 .1 .0) (c .before .before .before .wipe-rows .last .0) p (cleared-whole (g .name .now) (g .work .now) (c .before .before .before .before .before .before .before .before .before .first-reading .last .1 .1 .1 .0) (c .before .before .before .wipe-rows .last .0) (c .before .before .before .before .before .before .before .before .before .first-reading .ensures .1) (c .before .before .before .wipe-rows .ensures)) (f .1) (omega (arith, c .before .before .before .before .before .before .before .before .before .before .before .before .before .before .before .before .before .before .before .wipe-all .kept .0, c .before .before .before .before .before .before .before .before .before .first-reading .kept)) (rw (c .if1 .taken, c .before .before .before .before .before .before .before .before .before .before .before .before .before .before .before .before .before .before .before .wipe-all .ensures) at (c .before .before .before .before .before .before .before .before .before .first-reading .ensures .0))
+    let ended = c .before .before .before in
+    let searched = ended .before .before .before .before .before .before in
+    let tested = searched .before .before .before in
+    let first = searched .first-reading in
+    first-went (tested .before .before .before .before .before .before .before .wipe-all .ensures) (passed tested) (first .last .1 .1 .0) (first .last .1 .1 .1 .0)
+    (first .kept .1 .1 .0) (first .ensures) (ended .wipe-rows .ensures) (c .if1 .taken)
 
 same-length-5 : tie.Need-same-length-5
 same-length-5 c = search needs
@@ -73,11 +65,12 @@ same-length-6 c = search needs
 
 returns-3 : tie.Need-returns-3
 returns-3 c =
-    let g = c .before .before .before .before .before .before .before .before .before .before .before .before .before .before .before .before .before .before .before .before .before .before .before .before .before .args in
-    let q : firstOf (mappingGrounds (g .sheet .now) (g .name .now) (wiped (g .mapping .now)) (g .work .now)) ≡ none = rw (c .before .before .before .before .before .before .before .before .before .before .before .before .before .before .before .before .before .before .before .wipe-all .ensures) at (sym (c .before .before .before .before .before .before .before .before .before .before .before .before .before .before .call-test .ensures) ∙ ap reasonOf (c .before .before .before .before .before .before .before .before .before .before .before .before .enum-told .given .1)) in
-    let p = sym (wiped-grounds (g .sheet .now) (g .name .now) (g .mapping .now) (g .work .now)) ∙ q in
-    let f = mapping-fit (g .sheet .now) (g .name .now) (g .mapping .now) (g .work .now) p in
-    first-no (g .sheet .now) (g .name .now) (g .mapping .now) (g .work .now) (c .before .before .before .before .before .before .before .before .before .first-reading .last .1 .1 .0) (c .before .before .before .wipe-rows .last .0) p (cleared-whole (g .name .now) (g .work .now) (c .before .before .before .before .before .before .before .before .before .first-reading .last .1 .1 .1 .0) (c .before .before .before .wipe-rows .last .0) (c .before .before .before .before .before .before .before .before .before .first-reading .ensures .1) (c .before .before .before .wipe-rows .ensures)) (rw (c .if1 .left, c .before .before .before .before .before .before .before .before .before .before .before .before .before .before .before .before .before .before .before .wipe-all .ensures) at (c .before .before .before .before .before .before .before .before .before .first-reading .ensures .0))
+    let ended = c .before .before .before in
+    let searched = ended .before .before .before .before .before .before in
+    let tested = searched .before .before .before in
+    let first = searched .first-reading in
+    first-went (tested .before .before .before .before .before .before .before .wipe-all .ensures) (passed tested) (first .last .1 .1 .0) (first .last .1 .1 .1 .0)
+    (first .kept .1 .1 .0) (first .ensures) (ended .wipe-rows .ensures) (c .if1 .left)
 
 pub first-spec : {M : Type 1} → statement M
 first-spec =

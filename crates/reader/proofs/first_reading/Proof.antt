@@ -1,8 +1,6 @@
 use borrow.Author.Needs.{needs}
-use Rattle.rows.proofs.Live.{T-true}
-use Rattle.automaton.specs.Tables.{followWords, letterWords}
 use Rattle.bits.proofs.Stores.{zeros-empty}
-use native.Mathlib.Omega.{arith}
+use Rattle.rows.proofs.Live.{T-true}
 use mathlib.Core.Path.{refl, sym, _∙_}
 use Rattle.reader.proofs.first_reading.Statement.{statement}
 use Rattle.reader.proofs.first_reading.Tie as tie
@@ -17,7 +15,7 @@ slice-aggregate-tables-3 : tie.Need-slice-aggregate-tables-3
 slice-aggregate-tables-3 c = search needs
 
 tables-requires : tie.Need-tables-requires
-tables-requires c κs = ((c .before .before .before .before .before .before .before .pre .0, zeros-empty followWords, zeros-empty letterWords), (omega arith, omega arith, omega arith))
+tables-requires c κs = search (needs, zeros-empty)
 
 slice-aggregate-fill : tie.Need-slice-aggregate-fill
 slice-aggregate-fill c = search needs
@@ -53,26 +51,34 @@ same-length-2 : tie.Need-same-length-2
 same-length-2 c = search needs
 
 returns : tie.Need-returns
-returns c = (
-  λ P x.
-      let t = c .before .before .before .before .before .before .before .before .before .before .before .before .before .before .before .before .before .before .before .before .before .tables .ensures P x in
-      let r = c .before .before .before .before .before .before .before .before .before .before .before .before .before .fill .ensures .0 P (t .steps) (t .ends) (t .letter) in
-      let a = sym (c .before .before .before .before .before .before .before .begins .ensures P (t .steps) (t .ends) r) ∙ c .before .before .before .before .before .before .if1 .taken in
-      (a, c .before .before .choose .ensures .0 P (t .steps) r (T-true _ a), c .before .before .choose .ensures .1),
-  c .before .before .before .before .before .before .before .before .before .before .before .before .before .fill .ensures .1,
-)
+returns c =
+    let chosen = c .before .before in
+    let branch = chosen .before .before .before .before in
+    let begun = branch .before in
+    let filled = begun .before .before .before .before .before .before in
+    let tabled = filled .before .before .before .before .before .before .before .before in (
+      λ P x.
+          let t = tabled .tables .ensures P x in
+          let rows = filled .fill .ensures .0 P (t .steps) (t .ends) (t .letter) in
+          let inside = sym (begun .begins .ensures P (t .steps) (t .ends) rows) ∙ branch .if1 .taken in
+          (inside, chosen .choose .ensures .0 P (t .steps) rows (T-true _ inside), chosen .choose .ensures .1),
+      filled .fill .ensures .1,
+    )
 
 same-length-3 : tie.Need-same-length-3
 same-length-3 c = search needs
 
 returns-2 : tie.Need-returns-2
-returns-2 c = (
-  λ P x.
-      let t = c .before .before .before .before .before .before .before .before .before .before .before .before .before .before .before .tables .ensures P x in
-      let r = c .before .before .before .before .before .before .before .fill .ensures .0 P (t .steps) (t .ends) (t .letter) in
-      (sym (c .before .begins .ensures P (t .steps) (t .ends) r) ∙ c .if1 .left, refl),
-  c .before .before .before .before .before .before .before .fill .ensures .1,
-)
+returns-2 c =
+    let begun = c .before in
+    let filled = begun .before .before .before .before .before .before in
+    let tabled = filled .before .before .before .before .before .before .before .before in (
+      λ P x.
+          let t = tabled .tables .ensures P x in
+          let rows = filled .fill .ensures .0 P (t .steps) (t .ends) (t .letter) in
+          (sym (begun .begins .ensures P (t .steps) (t .ends) rows) ∙ c .if1 .left, refl),
+      filled .fill .ensures .1,
+    )
 
 pub first-reading-spec : {M : Type 1} → statement M
 first-reading-spec =

@@ -1,8 +1,6 @@
 use borrow.Author.Needs.{needs}
-use Rattle.sheet.proofs.Accepted.{standing}
-use Rattle.automaton.specs.Tables.{followWords, letterWords}
 use Rattle.bits.proofs.Stores.{zeros-empty}
-use native.Mathlib.Omega.{arith}
+use Rattle.reader.proofs.Searches.{reading-told}
 use Rattle.reader.proofs.given_reading.Statement.{statement}
 use Rattle.reader.proofs.given_reading.Tie as tie
 
@@ -16,7 +14,7 @@ slice-aggregate-tables-3 : tie.Need-slice-aggregate-tables-3
 slice-aggregate-tables-3 c = search needs
 
 tables-requires : tie.Need-tables-requires
-tables-requires c κs = ((c .before .before .before .before .before .before .pre .0, zeros-empty followWords, zeros-empty letterWords), (omega arith, omega arith, omega arith))
+tables-requires c κs = search (needs, zeros-empty)
 
 slice-aggregate-is-reading : tie.Need-slice-aggregate-is-reading
 slice-aggregate-is-reading c = search needs
@@ -32,9 +30,8 @@ is-reading-requires c κs = search needs
 
 returns : tie.Need-returns
 returns c =
-    λ P x.
-    let t = c .before .before .before .before .before .before .before .tables .ensures P x in
-    c .is-reading .ensures .0 P (standing (c .before .before .before .before .before .before .before .before .before .before .before .before .before .before .args .sheet .now) P x .numbered) (t .steps) (t .ends) (t .letter)
+    let tabled = c .before .before .before .before .before .before .before in
+    reading-told (tabled .before .before .before .before .before .before .before .args .sheet .now) (tabled .tables .ensures) (c .is-reading .ensures .0)
 
 pub given-reading-spec : {M : Type 1} → statement M
 given-reading-spec =

@@ -1,7 +1,5 @@
 use borrow.Author.Needs.{needs}
-use Rattle.automaton.specs.Tables.{followWords, letterWords}
 use Rattle.bits.proofs.Stores.{zeros-empty}
-use native.Mathlib.Omega.{arith}
 use Rattle.reader.proofs.in_language.Statement.{statement}
 use Rattle.reader.proofs.in_language.Tie as tie
 
@@ -15,7 +13,7 @@ slice-aggregate-tables-3 : tie.Need-slice-aggregate-tables-3
 slice-aggregate-tables-3 c = search needs
 
 tables-requires : tie.Need-tables-requires
-tables-requires c κs = ((c .before .before .before .before .before .before .pre .0, zeros-empty followWords, zeros-empty letterWords), (omega arith, omega arith, omega arith))
+tables-requires c κs = search (needs, zeros-empty)
 
 slice-aggregate-fill : tie.Need-slice-aggregate-fill
 slice-aggregate-fill c = search needs
@@ -42,12 +40,15 @@ same-length : tie.Need-same-length
 same-length c = search needs
 
 returns : tie.Need-returns
-returns c = (
-  λ P x.
-      let t = c .before .before .before .before .before .before .before .before .before .before .before .before .before .before .tables .ensures P x in
-      c .begins .ensures P (t .steps) (t .ends) (c .before .before .before .before .before .before .fill .ensures .0 P (t .steps) (t .ends) (t .letter)),
-  c .before .before .before .before .before .before .fill .ensures .1,
-)
+returns c =
+    let filled = c .before .before .before .before .before .before in
+    let tabled = filled .before .before .before .before .before .before .before .before in (
+      λ P x.
+          let t = tabled .tables .ensures P x in
+          let rows = filled .fill .ensures .0 P (t .steps) (t .ends) (t .letter) in
+          c .begins .ensures P (t .steps) (t .ends) rows,
+      filled .fill .ensures .1,
+    )
 
 pub in-language-spec : {M : Type 1} → statement M
 in-language-spec =

@@ -10,7 +10,7 @@ same-length : tie.Need-same-length
 same-length c = search needs
 
 returns : tie.Need-returns
-returns c = wiped-whole (c .before .before .before .before .before .args .buffer .now) (c .before .before .wipe .last .0) (c .before .before .wipe .ensures)
+returns c = wiped-whole (c .before .before .before .before .before .args .buffer .now) (c .before .before .wipe .ensures)
 
 pub wipe-all-spec : {M : Type 1} → statement M
 wipe-all-spec = tie.close (tie.spec wipe-requires same-length returns)
