@@ -102,9 +102,10 @@ module _ (P : Pattern) (name w : List ℕ) where
         some-afresh (suc r) z = refl
 
 -- the entry is put, and all after it is chosen
-pub advanced : (P : Pattern) (name mapping put end : List ℕ) (i q : ℕ) → i < length name → length name ≤ length mapping → put ≡ set mapping i q
+pub advanced : (P : Pattern) (name mapping end : List ℕ) {put : List ℕ} {i : ℕ} (q : ℕ) → i < length name → length name ≤ length mapping → put ≡ set mapping i q
     → take (length name) end ≡ take (i + 1) put ++ chosen P (drop (i + 1) name) q
     → nextReading P name (entries (length name) mapping) ≡ some (take i (entries (length name) mapping) ++ q ∷ chosen P (drop (suc i) name) q)
     → nextReading P name (entries (length name) mapping) ≡ some (take (length name) end)
-advanced P name mapping put end i q h k p e m =
-    m ∙ ap some (rw (entries-are (length name) mapping, take-take i (length name) mapping (omega arith)) (sym (e ∙ rw (p, add-one i, take-suc-set mapping i q (omega arith), append-assoc) refl)))
+advanced P name mapping end {i = i} q h k p e m =
+    let whole : take (length name) end ≡ take i mapping ++ q ∷ chosen P (drop (suc i) name) q = e ∙ rw (p, add-one i, take-suc-set mapping i q (omega arith), append-assoc) refl in
+    m ∙ ap some (rw (entries-are (length name) mapping, take-take i (length name) mapping (omega arith)) (sym whole))
