@@ -1,11 +1,7 @@
 use borrow.Author.Needs.{needs}
 use Rattle.choices.proofs.Onward.{advanced}
 use Rattle.choices.specs.declared.Move.the-variants.{At}
-use Rattle.choices.specs.Moves.{Within, Moved}
-use Rattle.automaton.specs.Tables.{Follows}
-use Rattle.rows.specs.Rows.{RowsOf}
-use Rattle.language.specs.Reading.{Pattern}
-use Rattle.rules.specs.Limits.{entries}
+use Rattle.choices.specs.Moves.{Within}
 use lib.Seq.{drop-set-lt}
 use lib.ListN.{length}
 use native.Mathlib.Numerals.{add-one}
@@ -19,13 +15,6 @@ within :
     (c : tie.After-m) →
     Within (length (c .before .before .before .before .before .before .before .before .args .name .now)) (At (c .m .given .0 .0) (c .m .given .0 .1 .0))
 within c = rw (c .m .given .1) at (c .before .before .last-move .ensures .0)
-
-moved :
-    (c : tie.After-m) (P : Pattern) →
-    let g = c .before .before .before .before .before .before .before .before .args in
-    Follows P (g .follow .now) → RowsOf P (g .name .now) (g .work .now) →
-    Moved P (g .name .now) (entries (length (g .name .now)) (g .mapping .now)) (At (c .m .given .0 .0) (c .m .given .0 .1 .0))
-moved c P f r = rw (c .m .given .1) at (c .before .before .last-move .ensures .1 P f r)
 
 last-move-requires : tie.Need-last-move-requires
 last-move-requires c κs = search needs
@@ -67,7 +56,7 @@ returns-2 c =
     let i = move .m .given .0 .0 .0 in
     let q = move .m .given .0 .1 .0 .0 in (
       λ P f r.
-          let (readable, next) = moved move P f r in
+          let (readable, next) = rw (move .m .given .1) at (move .before .before .last-move .ensures .1 P f r) in
           advanced P (g .name .now) (g .mapping .now) (chose .choose .last .0) q inside (start .pre .0 .1) (put .put-entry .ensures)
           (chose .choose .ensures .0 P f r (rw (add-one i) readable)) next,
       chose .choose .ensures .1 ∙ rw (put .put-entry .ensures) (drop-set-lt (length (g .name .now)) (g .mapping .now) i q inside),
