@@ -31,8 +31,8 @@ pub record Tried (f g : ℕ → Bool) (w q : ℕ) : Type 0 where
   pub more : w ≤ q
   pub fails : (x : ℕ) → w < x → x ≤ q → (f x && g x) ≡ false
 
-pub tried-none : (f g : ℕ → Bool) (w : ℕ) → Tried f g w w
-tried-none f g w = record { more = omega arith; fails = λ x h k. absurd (omega arith) }
+pub tried-none : {f g : ℕ → Bool} {w : ℕ} → Tried f g w w
+tried-none = record { more = omega arith; fails = λ x h k. absurd (omega arith) }
 
 module _ {f g : ℕ → Bool} {w q r : ℕ} (old : Tried f g w q) (l : LeastFrom f (q + 1) r) where
   before : (x : ℕ) → w < x → x < r → (f x && g x) ≡ false
@@ -46,7 +46,7 @@ module _ {f g : ℕ → Bool} {w q r : ℕ} (old : Tried f g w q) (l : LeastFrom
   pub tried-more : (r ≡ 0 → ⊥) → g r ≡ false → Tried f g w r
   tried-more z e =
       record {
-        more = omega (arith, least-above f (q + 1) r l z, old .more);
+        more = omega (arith, least-above l z, old .more);
         fails = λ x h k. by-cases (ℕ-discrete x r) (λ (d : x ≡ r). rw (d, e) (and-false (f r))) (λ (d : ¬ (x ≡ r)). before x h (omega arith));
       }
 
@@ -76,8 +76,8 @@ nextAt P name w i = next (okIn P) (stop (P .tree)) (size (P .tree)) (drop i name
 pub record Still (P : Pattern) (name mapping : List ℕ) (i : ℕ) : Type 0 where
   pub stays : nextAt P name (entries (length name) mapping) i ≡ none
 
-pub still-start : {P : Pattern} (name : List ℕ) {mapping : List ℕ} → Still P name mapping (length name)
-still-start name = record { stays = rw (drop-length name) refl }
+pub still-start : {P : Pattern} {name mapping : List ℕ} → Still P name mapping (length name)
+still-start {name = name} = record { stays = rw (drop-length name) refl }
 
 -- r is the least position after the entry of place i that is live and may come after p
 abbrev pub MovesTo : List ℕ → List ℕ → List ℕ → ℕ → ℕ → ℕ → Type 0

@@ -29,7 +29,7 @@ abbrev μ-search : tie.MeasureT-search
 μ-search name mapping work follow found₀ left₀ found left = left
 
 search-holds : tie.Need-search-holds Inv-loop μ-loop Inv-search μ-search
-search-holds c = (omega arith, refl, λ P f r. still-start (c .before .before .before .before .args .name .now))
+search-holds c = (omega arith, refl, λ P f r. still-start)
 
 sub-i : tie.Need-sub-i Inv-loop μ-loop Inv-search μ-search
 sub-i c = search needs
@@ -42,10 +42,8 @@ entry-requires c κs = search needs
 
 loop-holds : tie.Need-loop-holds Inv-loop μ-loop Inv-search μ-search
 loop-holds c =
-    let g = c .before .before .before .before .before .before .before .before .args in
-    let search = c .before .before .before .search in
     let entry = c .entry .ensures in
-    (entry .1, search .inv .1, rw (entry .0) (tried-none (rowHas (rowAt (g .work .now) (search .left - 1))) (has (g .follow .now) (c .before .entry-before .result .0)) _))
+    (entry .1, c .before .before .before .search .inv .1, rw (entry .0) tried-none)
 
 later-requires : tie.Need-later-requires Inv-loop μ-loop Inv-search μ-search
 later-requires c κs = search needs
@@ -58,7 +56,7 @@ follows-requires c κs =
     (omega arith, omega (arith, c .before .before .before .before .before .entry-before .ensures, small), omega arith)
 
 loop-less : tie.Need-loop-less Inv-loop μ-loop Inv-search μ-search
-loop-less c = let h = least-above _ _ _ (c .before .before .before .before .later .ensures .0) (c .before .before .if1 .left) in omega arith
+loop-less c = let h = least-above (c .before .before .before .before .later .ensures .0) (c .before .before .if1 .left) in omega arith
 
 loop-again : tie.Need-loop-again Inv-loop μ-loop Inv-search μ-search
 loop-again c =
