@@ -23,19 +23,18 @@ pub record Along (P : Pattern) (name all mapping : List ℕ) (i p : ℕ) : Type 
   pub alive : T (readable P (drop i name) p)
   pub whole : take i mapping ++ chosen P (drop i name) p ≡ all
 
-module _ (P : Pattern) (follow : List ℕ) (f : Follows P follow) (name work all : List ℕ) where
-  pub along-turn : (mapping : List ℕ) (i p r : ℕ) → i < length name → i < length mapping → RowOf P name work i
-      → LeastFrom (λ x. rowHas (rowAt work i) x && has follow p x) 1 r
-      → Along P name all mapping i p → Along P name all (set mapping i r) (i + 1) r
-  along-turn mapping i p r h k row l a =
+module _ {P : Pattern} {name all mapping : List ℕ} {i p : ℕ} (so-far : Along P name all mapping i p) where
+  pub along-turn : (follow work : List ℕ) {r : ℕ} → Follows P follow → RowOf P name work i → i < length name → i < length mapping
+      → LeastFrom (λ x. rowHas (rowAt work i) x && has follow p x) 1 r → Along P name all (set mapping i r) (i + 1) r
+  along-turn follow work {r} f row h k l =
       let b = getD name i 0 in
       let bs = drop (suc i) name in
       let e = first-pick P b bs follow (rowAt work i) f row p r l in
       record {
-        alive = rw (add-one i, e) (picked-live P b bs p 1 (size (P .tree)) (rw (drop-cons name i 0 h) at (a .alive)));
+        alive = rw (add-one i, e) (picked-live P b bs p 1 (size (P .tree)) (rw (drop-cons name i 0 h) at (so-far .alive)));
         whole =
-            rw (add-one i, take-suc-set mapping i r k, append-assoc) (rw (greedy-at (okIn P) (stop (P .tree)) (size (P .tree)) name i p h, ← e) at (a .whole));
+            rw (add-one i, take-suc-set mapping i r k, append-assoc) (rw (greedy-at (okIn P) (stop (P .tree)) (size (P .tree)) name i p h, ← e) at (so-far .whole));
       }
 
-  pub along-end : (mapping : List ℕ) (p : ℕ) → Along P name all mapping (length name) p → take (length name) mapping ≡ all
-  along-end mapping p a = rw (drop-length name, append-nil) at (a .whole)
+  pub along-end : i ≡ length name → take (length name) mapping ≡ all
+  along-end e = rw (e, drop-length name, append-nil) at (so-far .whole)

@@ -2,7 +2,7 @@
 use mathlib.Core.Path.{_≡_, refl, ap, sym, _∙_}
 use mathlib.Core.Logic.{by-cases}
 use mathlib.Core.Bool.{Bool, true, false, _&&_, and-false}
-use mathlib.Core.Option.{none, some}
+use mathlib.Core.Option.{Option, none, some}
 use mathlib.Core.List.{List, _∷_, _++_, append-assoc}
 use Prim.Native.Nat.{ℕ, zero, suc, _+_, _-_, _<_, _≤_}
 use native.Mathlib.Decide.{decLt, ℕ-discrete}
@@ -19,92 +19,117 @@ use Rattle.language.specs.Search.{pick, next, afresh, okIn, nextReading}
 use Rattle.language.proofs.Places.{next-from, next-here}
 use Rattle.bits.specs.Sets.{has, rowHas, LeastFrom, found, nowhere}
 use Rattle.automaton.specs.Tables.{Follows}
-use Rattle.rows.specs.Rows.{readable, rowAt, RowOf}
+use Rattle.rows.specs.Rows.{readable, rowAt, RowsOf}
 use Rattle.choices.specs.Moves.{chosen}
-use Rattle.choices.proofs.Entries.{entries-are}
-use Rattle.choices.proofs.Picks.{fine, picked-live, later-pick}
+use Rattle.choices.proofs.Entries.{entries-are, entries-length, entry-is, before-is}
+use Rattle.choices.proofs.Picks.{least-above, fine, picked-live, later-pick}
 
 -- ---- later positions of one place: f is live, g may come next
 
 -- none after w and up to q will do
-abbrev pub Tried : (ℕ → Bool) → (ℕ → Bool) → ℕ → ℕ → Type 0
-Tried f g w q = (x : ℕ) → w < x → x ≤ q → (f x && g x) ≡ false
+pub record Tried (f g : ℕ → Bool) (w q : ℕ) : Type 0 where
+  pub more : w ≤ q
+  pub fails : (x : ℕ) → w < x → x ≤ q → (f x && g x) ≡ false
 
-module _ (f g : ℕ → Bool) (w : ℕ) where
-  pub tried-none : Tried f g w w
-  tried-none x h k = absurd (omega arith)
+pub tried-none : {f g : ℕ → Bool} {w : ℕ} → Tried f g w w
+tried-none = record { more = omega arith; fails = λ x h k. absurd (omega arith) }
 
-  module _ (q r : ℕ) (old : Tried f g w q) (l : LeastFrom f (q + 1) r) (more : w ≤ q) where
-    before : (x : ℕ) → w < x → x < r → (f x && g x) ≡ false
-    before x h k = by-cases (decLt q x) (λ (d : q < x). go l k d) (λ (d : ¬ (q < x)). old x h (omega arith))
-      where
-        go : {m : ℕ} → LeastFrom f (q + 1) m → x < m → q < x → (f x && g x) ≡ false
-        go (found b e n) k d = rw (n x (omega arith) k) refl
-        go (nowhere n) k d = rw (n x (omega arith)) refl
+module _ {f g : ℕ → Bool} {w q r : ℕ} (old : Tried f g w q) (l : LeastFrom f (q + 1) r) where
+  before : (x : ℕ) → w < x → x < r → (f x && g x) ≡ false
+  before x h k = by-cases (decLt q x) (λ (d : q < x). go l k d) (λ (d : ¬ (q < x)). old .fails x h (omega arith))
+    where
+      go : {m : ℕ} → LeastFrom f (q + 1) m → x < m → q < x → (f x && g x) ≡ false
+      go (found b e n) k d = rw (n x (omega arith) k) refl
+      go (nowhere n) k d = rw (n x (omega arith)) refl
 
-    -- the next live position does not do either
-    pub tried-more : g r ≡ false → Tried f g w r
-    tried-more e x h k = by-cases (ℕ-discrete x r) (λ (d : x ≡ r). rw (d, e) (and-false (f r))) (λ (d : ¬ (x ≡ r)). before x h (omega arith))
+  -- the next live position does not do either
+  pub tried-more : (r ≡ 0 → ⊥) → g r ≡ false → Tried f g w r
+  tried-more z e =
+      record {
+        more = omega (arith, least-above l z, old .more);
+        fails = λ x h k. by-cases (ℕ-discrete x r) (λ (d : x ≡ r). rw (d, e) (and-false (f r))) (λ (d : ¬ (x ≡ r)). before x h (omega arith));
+      }
 
-    -- it does
-    pub tried-found : (r ≡ 0 → ⊥) → g r ≡ true → LeastFrom (λ x. f x && g x) (suc w) r
-    tried-found z e = go l refl
-      where
-        go : {m : ℕ} → LeastFrom f (q + 1) m → m ≡ r → LeastFrom (λ x. f x && g x) (suc w) r
-        go (found b t n) d = found {q = r} (omega arith) (rw (rw d at t, e) refl) (λ x h k. before x h k)
-        go (nowhere n) d = absurd (z (sym d))
+  -- it does
+  pub tried-found : (r ≡ 0 → ⊥) → g r ≡ true → LeastFrom (λ x. f x && g x) (suc w) r
+  tried-found z e = go l refl
+    where
+      go : {m : ℕ} → LeastFrom f (q + 1) m → m ≡ r → LeastFrom (λ x. f x && g x) (suc w) r
+      go (found b t n) d = found {q = r} (omega (arith, old .more)) (rw (rw d at t, e) refl) (λ x h k. before x h k)
+      go (nowhere n) d = absurd (z (sym d))
 
-    -- there is none
-    pub tried-all : r ≡ 0 → LeastFrom (λ x. f x && g x) (suc w) 0
-    tried-all z = nowhere (λ x h. by-cases (decLt q x) (λ (d : q < x). go l z d) (λ (d : ¬ (q < x)). old x h (omega arith)))
-      where
-        go : {m : ℕ} → LeastFrom f (q + 1) m → m ≡ 0 → {x : ℕ} → q < x → (f x && g x) ≡ false
-        go (found b t n) d k = absurd (omega arith)
-        go (nowhere n) d {x} k = rw (n x (omega arith)) refl
+  -- there is none
+  pub tried-all : r ≡ 0 → LeastFrom (λ x. f x && g x) (suc w) 0
+  tried-all z = nowhere (λ x h. by-cases (decLt q x) (λ (d : q < x). go l z d) (λ (d : ¬ (q < x)). old .fails x h (omega arith)))
+    where
+      go : {m : ℕ} → LeastFrom f (q + 1) m → m ≡ 0 → {x : ℕ} → q < x → (f x && g x) ≡ false
+      go (found b t n) d k = absurd (omega arith)
+      go (nowhere n) d {x} k = rw (n x (omega arith)) refl
 
 -- ---- places from the right
 
-module _ (P : Pattern) (name w : List ℕ) where
-  -- nothing from place i on moves
-  abbrev pub Still : ℕ → Type 0
-  Still i = next (okIn P) (stop (P .tree)) (size (P .tree)) (drop i name) (getD (0 ∷ w) i 0) (drop i w) ≡ none
+-- what moves from place i on
+abbrev nextAt : Pattern → List ℕ → List ℕ → ℕ → Option (List ℕ)
+nextAt P name w i = next (okIn P) (stop (P .tree)) (size (P .tree)) (drop i name) (getD (0 ∷ w) i 0) (drop i w)
 
-  pub still-start : Still (length name)
-  still-start = rw (drop-length name) refl
+-- nothing does
+pub record Still (P : Pattern) (name mapping : List ℕ) (i : ℕ) : Type 0 where
+  pub stays : nextAt P name (entries (length name) mapping) i ≡ none
 
-  pub still-end : Still 0 → nextReading P name w ≡ none
-  still-end s = s
+pub still-start : {P : Pattern} {name mapping : List ℕ} → Still P name mapping (length name)
+still-start {name = name} = record { stays = rw (drop-length name) refl }
 
-  module _ (i p : ℕ) (follow work : List ℕ) (f : Follows P follow) (row : RowOf P name work i) (h : i < length name) (k : i < length w) (before : getD (0 ∷ w) i 0 ≡ p) (still : Still (suc i)) where
-    abbrev bs : List ℕ
-    bs = drop (suc i) name
+-- r is the least position after the entry of place i that is live and may come after p
+abbrev pub MovesTo : List ℕ → List ℕ → List ℕ → ℕ → ℕ → ℕ → Type 0
+MovesTo follow work mapping i p r = LeastFrom (λ x. rowHas (rowAt work i) x && has follow p x) (suc (getD mapping i 0)) r
 
-    -- it is the turn of place i
-    here : (r : ℕ) → LeastFrom (λ x. rowHas (rowAt work i) x && has follow p x) (suc (getD w i 0)) r
-        → next (okIn P) (stop (P .tree)) (size (P .tree)) (drop i name) (getD (0 ∷ w) i 0) (drop i w) ≡ afresh (okIn P) (stop (P .tree)) (size (P .tree)) bs r
-    here r l =
-        rw (before, drop-cons name i 0 h, drop-cons w i 0 k, later-pick P (getD name i 0) bs follow (rowAt work i) f row p (getD w i 0) r l)
-        (next-here (okIn P) (stop (P .tree)) (size (P .tree)) (getD name i 0) bs p (getD w i 0) (drop (suc i) w) still)
+-- it is the turn of place i, after p
+module _ {P : Pattern} {name mapping : List ℕ} {left : ℕ} (still : Still P name mapping left) (fits : left ≤ length name) (held : length name ≤ length mapping)
+    (follow work : List ℕ) (f : Follows P follow) (rows : RowsOf P name work) (i : ℕ) (e : suc i ≡ left) {p : ℕ} (before : p ≡ getD (0 ∷ mapping) i 0) where
+  abbrev w : List ℕ
+  w = entries (length name) mapping
 
-    pub still-turn : LeastFrom (λ x. rowHas (rowAt work i) x && has follow p x) (suc (getD w i 0)) 0 → Still i
-    still-turn l = here 0 l
+  abbrev bs : List ℕ
+  bs = drop (suc i) name
 
-    -- the place moves to r
-    pub moves : (r : ℕ) → 0 < r → LeastFrom (λ x. rowHas (rowAt work i) x && has follow p x) (suc (getD w i 0)) r
-        → T (readable P bs r) × (nextReading P name w ≡ some (take i w ++ r ∷ chosen P bs r))
-    moves r z l = (rw e (picked-live P (getD name i 0) bs p (suc (getD w i 0)) (size (P .tree) - getD w i 0) (rw (← e) (lt→ltb 0 r z))), next-from (okIn P) (stop (P .tree)) (size (P .tree)) i name w (r ∷ chosen P bs r) 0 (here r l ∙ some-afresh r z))
-      where
-        e : r ≡ pick (fine P (getD name i 0) bs p) (suc (getD w i 0)) (size (P .tree) - getD w i 0)
-        e = later-pick P (getD name i 0) bs follow (rowAt work i) f row p (getD w i 0) r l
+  inside : i < length name
+  inside = omega arith
 
-        some-afresh : (r : ℕ) → 0 < r → afresh (okIn P) (stop (P .tree)) (size (P .tree)) bs r ≡ some (r ∷ chosen P bs r)
-        some-afresh zero z = absurd (omega arith)
-        some-afresh (suc r) z = refl
+  is-picked : (r : ℕ) → MovesTo follow work mapping i p r → r ≡ pick (fine P (getD name i 0) bs p) (suc (getD mapping i 0)) (size (P .tree) - getD mapping i 0)
+  is-picked r = later-pick P (getD name i 0) bs follow (rowAt work i) f (rows i inside) p (getD mapping i 0) r
+
+  here : (r : ℕ) → MovesTo follow work mapping i p r → nextAt P name w i ≡ afresh (okIn P) (stop (P .tree)) (size (P .tree)) bs r
+  here r l =
+      let after = before-is (length name) mapping i (omega (arith, inside)) ∙ sym before in
+      let long : i < length w = rw (entries-length (length name) mapping held) inside in
+      let entry = entry-is (length name) mapping i inside in
+      let rest = rw (← e, entry) at (still .stays) in
+      rw (after, drop-cons name i 0 inside, drop-cons w i 0 long, entry, is-picked r l)
+      (next-here (okIn P) (stop (P .tree)) (size (P .tree)) (getD name i 0) bs p (getD mapping i 0) (drop (suc i) w) rest)
+
+  pub still-turn : MovesTo follow work mapping i p 0 → Still P name mapping i
+  still-turn l = record { stays = here 0 l }
+
+  -- the place moves to r
+  pub moves : {r : ℕ} → (r ≡ 0 → ⊥) → MovesTo follow work mapping i p r
+      → T (readable P (drop (suc i) name) r) × (nextReading P name (entries (length name) mapping) ≡ some (take i (entries (length name) mapping) ++ r ∷ chosen P (drop (suc i) name) r))
+  moves {r} z l = (
+    rw picked (picked-live P (getD name i 0) bs p (suc (getD mapping i 0)) (size (P .tree) - getD mapping i 0) (rw (← picked) (lt→ltb 0 r (omega arith)))),
+    next-from (okIn P) (stop (P .tree)) (size (P .tree)) i name w (r ∷ chosen P bs r) 0 (here r l ∙ some-afresh r (omega arith)),
+  )
+    where
+      picked : r ≡ pick (fine P (getD name i 0) bs p) (suc (getD mapping i 0)) (size (P .tree) - getD mapping i 0)
+      picked = is-picked r l
+
+      some-afresh : (r : ℕ) → 0 < r → afresh (okIn P) (stop (P .tree)) (size (P .tree)) bs r ≡ some (r ∷ chosen P bs r)
+      some-afresh zero z = absurd (omega arith)
+      some-afresh (suc r) z = refl
 
 -- the entry is put, and all after it is chosen
-pub advanced : (P : Pattern) (name mapping put end : List ℕ) (i q : ℕ) → i < length name → length name ≤ length mapping → put ≡ set mapping i q
+pub advanced : (P : Pattern) (name mapping end : List ℕ) {put : List ℕ} {i : ℕ} (q : ℕ) → i < length name → length name ≤ length mapping → put ≡ set mapping i q
     → take (length name) end ≡ take (i + 1) put ++ chosen P (drop (i + 1) name) q
     → nextReading P name (entries (length name) mapping) ≡ some (take i (entries (length name) mapping) ++ q ∷ chosen P (drop (suc i) name) q)
     → nextReading P name (entries (length name) mapping) ≡ some (take (length name) end)
-advanced P name mapping put end i q h k p e m =
-    m ∙ ap some (rw (entries-are (length name) mapping, take-take i (length name) mapping (omega arith)) (sym (e ∙ rw (p, add-one i, take-suc-set mapping i q (omega arith), append-assoc) refl)))
+advanced P name mapping end {i = i} q h k p e m =
+    let whole : take (length name) end ≡ take i mapping ++ q ∷ chosen P (drop (suc i) name) q = e ∙ rw (p, add-one i, take-suc-set mapping i q (omega arith), append-assoc) refl in
+    m ∙ ap some (rw (entries-are (length name) mapping, take-take i (length name) mapping (omega arith)) (sym whole))

@@ -34,17 +34,17 @@ least-pick f g lo k r into back l = go r l (pick f lo k) (pick-view f lo k)
     go r (nowhere n) m (picked i t u) = absurd (true≢false (sym (back m i t) ∙ n m (i .low)))
     go r (nowhere n) m (unpicked u) = refl
 
-pub least-same : (f g : ℕ → Bool) (lo r : ℕ) → ((x : ℕ) → f x ≡ g x) → LeastFrom f lo r → LeastFrom g lo r
-least-same f g lo r e (found h t n) = found h (sym (e r) ∙ t) (λ x a b. sym (e x) ∙ n x a b)
-least-same f g lo r e (nowhere n) = nowhere (λ x a. sym (e x) ∙ n x a)
+pub least-same : {f g : ℕ → Bool} {lo r : ℕ} → ((x : ℕ) → f x ≡ g x) → LeastFrom f lo r → LeastFrom g lo r
+least-same {r = r} e (found h t n) = found h (sym (e r) ∙ t) (λ x a b. sym (e x) ∙ n x a b)
+least-same e (nowhere n) = nowhere (λ x a. sym (e x) ∙ n x a)
 
-pub least-below : (xs : List ℕ) (k lo r : ℕ) → LeastFrom (has xs k) lo r → r < setBits
-least-below xs k lo r (found h t n) = has-below xs k r t
-least-below xs k lo r (nowhere n) = omega arith
+pub least-below : (xs : List ℕ) (k : ℕ) {lo r : ℕ} → LeastFrom (has xs k) lo r → r < setBits
+least-below xs k {r = r} (found h t n) = has-below xs k r t
+least-below xs k (nowhere n) = omega arith
 
-pub least-above : (f : ℕ → Bool) (lo r : ℕ) → LeastFrom f lo r → (r ≡ 0 → ⊥) → lo ≤ r
-least-above f lo r (found h t n) z = h
-least-above f lo r (nowhere n) z = absurd (z refl)
+pub least-above : {f : ℕ → Bool} {lo r : ℕ} → LeastFrom f lo r → (r ≡ 0 → ⊥) → lo ≤ r
+least-above (found h t n) z = h
+least-above (nowhere n) z = absurd (z refl)
 
 module _ (P : Pattern) (b : ℕ) (bs : List ℕ) where
   abbrev pub fine : ℕ → ℕ → Bool

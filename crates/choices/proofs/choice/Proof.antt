@@ -1,12 +1,9 @@
 use borrow.Author.Needs.{needs}
 use Rattle.choices.proofs.Picks.{least-same, least-below}
 use Rattle.rows.proofs.Parts.{rest-of}
-use Rattle.rows.specs.Rows.{rowAt}
-use Rattle.bits.specs.Sets.{has, rowHas}
 use Rattle.rules.specs.Limits.{rowSize}
-use Prim.Native.Nat.{ℕ, _*_}
-use mathlib.Core.Bool.{_&&_}
-use mathlib.Core.Path.{_≡_, refl, _∙_}
+use Prim.Native.Nat.{_*_}
+use mathlib.Core.Path.{refl, _∙_}
 use Rattle.choices.proofs.choice.Statement.{statement}
 use Rattle.choices.proofs.choice.Tie as tie
 
@@ -45,9 +42,10 @@ returns c =
     let g = c .before .before .before .before .before .before .before .before .before .before .before .before .args in
     let a = c .before .before .before .before .before .before .load-row in
     let b = c .before .before .before .intersect in
-    let r = c .least-from in
-    let e : (x : ℕ) → has (b .last .0) 0 x ≡ (rowHas (rowAt (g .work .now) (g .i .0)) x && has (g .follow .now) (g .p .0) x) = λ x. b .ensures 0 x ∙ rw (a .ensures x, rest-of (g .work .now) (rowSize * g .i .0)) refl in
-    (least-same (has (b .last .0) 0) _ 1 _ e (r .ensures), least-below (b .last .0) 0 1 _ (r .ensures))
+    let least = c .least-from .ensures in (
+      least-same (λ x. b .ensures 0 x ∙ rw (a .ensures x, rest-of (g .work .now) (rowSize * g .i .0)) refl) least,
+      least-below (b .last .0) 0 least,
+    )
 
 pub choice-spec : {M : Type 1} → statement M
 choice-spec =

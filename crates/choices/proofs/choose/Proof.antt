@@ -16,7 +16,14 @@ use Rattle.choices.proofs.choose.Statement.{statement}
 use Rattle.choices.proofs.choose.Tie as tie
 
 abbrev Inv-loop : tie.InvT-loop
-Inv-loop mapping₀ name work follow p₀ i₀ mapping p i = (i₀ ≤ i) × (i ≤ length name) × (p .0 < setBits) × (length mapping ≡ length mapping₀) × (drop (length name) mapping ≡ drop (length name) mapping₀) × ((P : Pattern) → Follows P follow → RowsOf P name work → T (readable P (drop i₀ name) (p₀ .0)) → Along P name (take i₀ mapping₀ ++ chosen P (drop i₀ name) (p₀ .0)) mapping i (p .0))
+Inv-loop mapping₀ name work follow p₀ i₀ mapping p i =
+    (i₀ ≤ i)
+    × (i ≤ length name)
+    × (p .0 < setBits)
+    × (length mapping ≡ length mapping₀)
+    × (drop (length name) mapping ≡ drop (length name) mapping₀)
+    × ((P : Pattern) → Follows P follow → RowsOf P name work → T (readable P (drop i₀ name) (p₀ .0))
+    → Along P name (take i₀ mapping₀ ++ chosen P (drop i₀ name) (p₀ .0)) mapping i (p .0))
 
 abbrev μ-loop : tie.MeasureT-loop
 μ-loop mapping₀ name work follow p₀ i₀ mapping p i = length name - i
@@ -39,15 +46,15 @@ loop-less c = search needs
 loop-again : tie.Need-loop-again Inv-loop μ-loop
 loop-again c =
     let g = c .before .before .before .before .before .before .before .before .before .before .before .args in
-    let l = c .before .before .before .before .before .before .loop in
-    let q = c .before .before .before .before .choice in
-    let m = c .before .before .put-entry in (
+    let loop = c .before .before .before .before .before .before .loop in
+    let choice = c .before .before .before .before .choice .ensures in
+    let put = c .before .before .put-entry .ensures in (
       omega arith,
       omega arith,
-      q .ensures .1,
+      choice .1,
       omega arith,
-      rw (m .ensures) (drop-set-lt (length (g .name .now)) (l .mapping) (l .i) _ (omega arith) ∙ l .inv .4),
-      λ P f r h. rw (m .ensures) (along-turn P (g .follow .now) f (g .name .now) (g .work .now) _ (l .mapping) (l .i) (l .p .0) _ (omega arith) (omega arith) (r (l .i) (omega arith)) (q .ensures .0) (l .inv .5 P f r h)),
+      rw put (drop-set-lt (length (g .name .now)) (loop .mapping) (loop .i) _ (omega arith) ∙ loop .inv .4),
+      λ P f r h. rw put (along-turn (loop .inv .5 P f r h) (g .follow .now) (g .work .now) f (r (loop .i) (omega arith)) (omega arith) (omega arith) (choice .0)),
     )
 
 same-length : tie.Need-same-length Inv-loop μ-loop
@@ -55,10 +62,8 @@ same-length c = search needs
 
 returns : tie.Need-returns Inv-loop μ-loop
 returns c =
-    let g = c .before .before .before .before .before .before .args in
-    let l = c .before .loop in
-    let e : l .i ≡ length (g .name .now) = omega arith in
-    (λ P f r h. along-end P (g .follow .now) f (g .name .now) (g .work .now) _ (l .mapping) (l .p .0) (rw e at (l .inv .5 P f r h)), l .inv .4)
+    let loop = c .before .loop in
+    (λ P f r h. along-end (loop .inv .5 P f r h) (omega arith), loop .inv .4)
 
 pub choose-spec : {M : Type 1} → statement M
 choose-spec =

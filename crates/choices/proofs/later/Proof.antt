@@ -1,11 +1,9 @@
 use borrow.Author.Needs.{needs}
 use Rattle.choices.proofs.Picks.{least-same, least-below}
 use Rattle.rows.proofs.Parts.{rest-of}
-use Rattle.rows.specs.Rows.{rowAt}
-use Rattle.bits.specs.Sets.{has, rowHas}
 use Rattle.rules.specs.Limits.{rowSize}
-use Prim.Native.Nat.{ℕ, _*_}
-use mathlib.Core.Path.{_≡_, refl, _∙_}
+use Prim.Native.Nat.{_*_}
+use mathlib.Core.Path.{refl, _∙_}
 use Rattle.choices.proofs.later.Statement.{statement}
 use Rattle.choices.proofs.later.Tie as tie
 
@@ -40,9 +38,10 @@ returns : tie.Need-returns
 returns c =
     let g = c .before .before .before .before .before .before .before .before .before .args in
     let a = c .before .before .before .before .load-row in
-    let r = c .least-from in
-    let e : (x : ℕ) → has (a .last .1 .0) 0 x ≡ rowHas (rowAt (g .work .now) (g .i .0)) x = λ x. a .ensures x ∙ rw (rest-of (g .work .now) (rowSize * g .i .0)) refl in
-    (least-same (has (a .last .1 .0) 0) _ _ _ e (r .ensures), least-below (a .last .1 .0) 0 _ _ (r .ensures))
+    let least = c .least-from .ensures in (
+      least-same (λ x. a .ensures x ∙ rw (rest-of (g .work .now) (rowSize * g .i .0)) refl) least,
+      least-below (a .last .1 .0) 0 least,
+    )
 
 pub later-spec : {M : Type 1} → statement M
 later-spec =
