@@ -13,6 +13,10 @@ ghost use Rattle.sheet.specs.Refusals.{sheetRefusal};
 ghost use Rattle.bits.specs.Sets.{setWords, setBits, Empty};
 ghost use Rattle.automaton.specs.Tables.{followWords, letterSets, letterWords, letterOf, Tables};
 ghost use Rattle.automaton.specs.Walk.{stackWords, Held, State, Reached, Closed, LettersTo};
+use rules::CAT_NODE;
+use rules::EMPTY_NODE;
+use rules::LEAF_NODE;
+use rules::UNION_NODE;
 use rules::wide;
 
 // A set for each byte up to the highest literal.
@@ -25,15 +29,6 @@ pub const LETTER_WORDS: usize = bits::SET_WORDS * LETTER_SETS;
 
 // A set for each subtree that may wait.
 const STACK_WORDS: usize = bits::SET_WORDS * rules::WAITING_LIMIT;
-
-// The node bytes of a sheet; every other is a star.
-const LEAF: u8 = 0;
-
-const EMPTY_WORD: u8 = 1;
-
-const CAT: u8 = 2;
-
-const UNION: u8 = 3;
 
 // A leaf on top of k others.
 fn put_leaf(firsts: &mut [u64], stops: &mut [u64], k: usize, p: usize)
@@ -120,7 +115,7 @@ pub fn letter(b: u8) -> usize
     if at < LETTER_SETS { at } else { 0 }
 }
 
-// Reads the node bytes of an accepted sheet; its tree is all that waits at the end.
+// Reads the node bytes of an accepted sheet; its tree is all that waits at the end. A node that is none of the other four is a star.
 fn walk(sheet: &[u8], follow: &mut [u64], firsts: &mut [u64], stops: &mut [u64])
     requires { ⌜ (sheetRefusal (now sheet) ≡ none) × Empty (now follow) ⌝ }
     requires { ⌜ (followWords ≤ length (now follow)) × (stackWords ≤ length (now firsts)) × (stackWords ≤ length (now stops)) ⌝ }
@@ -132,17 +127,17 @@ fn walk(sheet: &[u8], follow: &mut [u64], firsts: &mut [u64], stops: &mut [u64])
     while at < sheet.len() {
         let node = sheet[at];
         at += 1;
-        if node == LEAF {
+        if node == LEAF_NODE {
             put_leaf(firsts, stops, top, p);
             top += 1;
             p += 1;
-        } else if node == EMPTY_WORD {
+        } else if node == EMPTY_NODE {
             put_empty(firsts, stops, top);
             top += 1;
-        } else if node == CAT {
+        } else if node == CAT_NODE {
             top -= 1;
             put_cat(follow, firsts, stops, top - 1);
-        } else if node == UNION {
+        } else if node == UNION_NODE {
             top -= 1;
             put_union(firsts, stops, top - 1);
         } else {
