@@ -1,6 +1,7 @@
 // What the programs share: writing to standard output, and looking through bytes. Contracts say only what keeps the programs safe.
 ghost use Prim.Native.Nat.{_<_, _≤_};
 ghost use lib.ListN.{length};
+ghost use Rattle.rules.specs.Limits.{byteValues};
 use libc::STDOUT_FILENO;
 
 pub fn say(bytes: &[u8]) {
@@ -19,7 +20,7 @@ pub fn say_field(n: u64) {
 
 // A byte as a number.
 pub fn wide(byte: u8) -> u64
-    ensures { λ r. ⌜ r < 256 ⌝ }
+    ensures { λ r. ⌜ r < byteValues ⌝ }
 {
     byte as u64
 }

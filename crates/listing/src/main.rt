@@ -1,6 +1,8 @@
 // The listing program of document 01: an expression and a name on two lines, every reading of the name in order.
 // It stands on the exported calls, and has no promise of its own but to be safe and to end.
 ghost use Prim.Native.Nat.{_<_};
+ghost use Rattle.rules.specs.Limits.{byteValues};
+ghost use Rattle.satchelram.specs.Packing.{secondRoom};
 use console::front;
 use console::say;
 use console::say_number;
@@ -116,14 +118,14 @@ fn number(answer: u64) -> u64 {
 }
 
 fn second(answer: u64) -> u64
-    ensures { λ r. ⌜ r < 16777216 ⌝ }
+    ensures { λ r. ⌜ r < secondRoom ⌝ }
 {
     answer / satchelram::NUMBER_ROOM % satchelram::SECOND_ROOM
 }
 
 // The byte at a place, or 0 where there is none.
 fn count_at(sheet: &[u8], at: u64) -> u64
-    ensures { λ r. ⌜ r < 256 ⌝ }
+    ensures { λ r. ⌜ r < byteValues ⌝ }
 {
     let place = at as usize;
     if place < sheet.len() {
