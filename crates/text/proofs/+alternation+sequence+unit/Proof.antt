@@ -10,7 +10,7 @@ use Rattle.text.proofs.Parts.{alt-starts, seq-starts, AltSoFar, SeqSoFa
 use Rattle.text.proofs.Readers.{alt-up, seq-onward, alt-over, alt-again, alt-begun, seq-up, unit-onward, seq-over, seq-again, seq-begun, void-begun, unit-void, unit-up, inner-onward, group-begun, unit-group, unit-unclosed}
 use Rattle.text.specs.Reads.{out, Begun}
 use Prim.Native.Nat.{ℕ, _+_, _*_, _-_, _<_, _≤_}
-use borrow.Fn.Kinds.{In}
+use borrow.Fn.Kinds.{In, Out}
 use borrow.Fn.PlainCycle.{Measures, is, falls, and}
 use Rattle.text.proofs.alternation.Reads as alternation
 use Rattle.text.proofs.alternation.Kinds as alternation-kinds
@@ -73,195 +73,98 @@ abbrev alternation-μ-loop : alternation-lts.MeasureT-loop
 alternation-μ-loop text nodes₀ lits₀ at n l allowed next₀ m₀ k₀ again₀ nodes lits next m k again =
     length text - next
 
-alternation-loop-holds : (t : ℕ) → alternation-lts.Need-loop-holds (
-  sequence-below t,
-  sequence.Post,
-  emit-if-reads.Asked,
-  emit-if-reads.Learnt,
-  is-reads.Asked,
-  is-reads.Learnt,
-) (alternation-at t) alternation.Post alternation-Inv-loop alternation-μ-loop
-alternation-loop-holds t c =
-    let args = c .before .before .before .args in
-    let pre = c .before .before .before .pre in
-    (alt-starts (args .text .now) (args .allowed) (args .at) (out (args .n) (args .nodes .now) (args .l) (args .lits .now)), omega arith, pre .1 .0, refl, refl)
+module _ (t : ℕ) where
+  abbrev alternation-claims : alternation-lts.Claims
+  alternation-claims = (sequence-below t, sequence.Post, emit-if-reads.Asked, emit-if-reads.Learnt, is-reads.Asked, is-reads.Learnt)
 
-alternation-sequence-requires : (t : ℕ) → alternation-lts.Need-sequence-requires (
-  sequence-below t,
-  sequence.Post,
-  emit-if-reads.Asked,
-  emit-if-reads.Learnt,
-  is-reads.Asked,
-  is-reads.Learnt,
-) (alternation-at t) alternation.Post alternation-Inv-loop alternation-μ-loop
-alternation-sequence-requires t c κs =
-    let loop = c .before .before .loop in
-    let pre = c .before .before .before .before .before .before .pre in
-    let v = loop .inv in (omega (arith, pre .0, v .1, v .2 .inside), (v .2, pre .1 .1))
+  -- of what `alternation` needs and knows, at the measure t
+  abbrev Alternation : (alternation-lts.Claims → In 3 alternation-kinds.ps → Out 3 alternation-kinds.ps alternation-kinds.r → alternation-lts.InvT-loop → alternation-lts.MeasureT-loop → Type 0) → Type 0
+  Alternation of = of alternation-claims (alternation-at t) alternation.Post alternation-Inv-loop alternation-μ-loop
 
-alternation-enum-known-r : (t : ℕ) → alternation-lts.Need-enum-known-r (
-  sequence-below t,
-  sequence.Post,
-  emit-if-reads.Asked,
-  emit-if-reads.Learnt,
-  is-reads.Asked,
-  is-reads.Learnt,
-) (alternation-at t) alternation.Post alternation-Inv-loop alternation-μ-loop
-alternation-enum-known-r t c = search needs
+  alternation-loop-holds : Alternation alternation-lts.Need-loop-holds
+  alternation-loop-holds c =
+      let args = c .before .before .before .args in
+      let pre = c .before .before .before .pre in
+      (alt-starts (args .text .now) (args .allowed) (args .at) (out (args .n) (args .nodes .now) (args .l) (args .lits .now)), omega arith, pre .1 .0, refl, refl)
 
-alternation-enum-told : (t : ℕ) → alternation-lts.Need-enum-told (
-  sequence-below t,
-  sequence.Post,
-  emit-if-reads.Asked,
-  emit-if-reads.Learnt,
-  is-reads.Asked,
-  is-reads.Learnt,
-) (alternation-at t) alternation.Post alternation-Inv-loop alternation-μ-loop
-alternation-enum-told t c = search needs
+  alternation-sequence-requires : Alternation alternation-lts.Need-sequence-requires
+  alternation-sequence-requires c κs =
+      let loop = c .before .before .loop in
+      let pre = c .before .before .before .before .before .before .pre in
+      let v = loop .inv in (omega (arith, pre .0, v .1, v .2 .inside), (v .2, pre .1 .1))
 
-alternation-same-length : (t : ℕ) → alternation-lts.Need-same-length (
-  sequence-below t,
-  sequence.Post,
-  emit-if-reads.Asked,
-  emit-if-reads.Learnt,
-  is-reads.Asked,
-  is-reads.Learnt,
-) (alternation-at t) alternation.Post alternation-Inv-loop alternation-μ-loop
-alternation-same-length t c = search needs
+  alternation-enum-known-r : Alternation alternation-lts.Need-enum-known-r
+  alternation-enum-known-r c = search needs
 
-alternation-same-length-2 : (t : ℕ) → alternation-lts.Need-same-length-2 (
-  sequence-below t,
-  sequence.Post,
-  emit-if-reads.Asked,
-  emit-if-reads.Learnt,
-  is-reads.Asked,
-  is-reads.Learnt,
-) (alternation-at t) alternation.Post alternation-Inv-loop alternation-μ-loop
-alternation-same-length-2 t c = search needs
+  alternation-enum-told : Alternation alternation-lts.Need-enum-told
+  alternation-enum-told c = search needs
 
-alternation-returns : (t : ℕ) → alternation-lts.Need-returns (
-  sequence-below t,
-  sequence.Post,
-  emit-if-reads.Asked,
-  emit-if-reads.Learnt,
-  is-reads.Asked,
-  is-reads.Learnt,
-) (alternation-at t) alternation.Post alternation-Inv-loop alternation-μ-loop
-alternation-returns t c =
-    let sequence = c .before .before .before .before .before .before .sequence in
-    let loop = c .before .before .before .before .before .before .before .before .before .loop in
-    let args = c .before .before .before .before .before .before .before .before .before .before .before .before .before .args in
-    alt-up (args .text .now) (args .allowed) (args .at) (out (args .n) (args .nodes .now) (args .l) (args .lits .now)) (loop .again) (loop .next) (loop .m) (loop .k) (loop .nodes) (sequence .last .1 .0) (loop .lits) (sequence .last .1 .1 .0) (sequence .result) (loop .inv .0) (sequence .ensures) ((c .enum-told) .given .0 .0) ((c .enum-told) .given .1)
+  alternation-same-length : Alternation alternation-lts.Need-same-length
+  alternation-same-length c = search needs
 
-alternation-emit-if-requires : (t : ℕ) → alternation-lts.Need-emit-if-requires (
-  sequence-below t,
-  sequence.Post,
-  emit-if-reads.Asked,
-  emit-if-reads.Learnt,
-  is-reads.Asked,
-  is-reads.Learnt,
-) (alternation-at t) alternation.Post alternation-Inv-loop alternation-μ-loop
-alternation-emit-if-requires t c κs =
-    let r = c .before .before .r in
-    let sequence = c .before .before .before .before .before .before .before .before .sequence in
-    let loop = c .before .before .before .before .before .before .before .before .before .before .before .loop in
-    let args = c .before .before .before .before .before .before .before .before .before .before .before .before .before .before .before .args in
-    let pre = c .before .before .before .before .before .before .before .before .before .before .before .before .before .before .before .pre in
-    let v = (seq-onward (args .text .now) (args .allowed) (args .at) (out (args .n) (args .nodes .now) (args .l) (args .lits .now)) (loop .again) (loop .next) (loop .m) (loop .k) (loop .nodes) (sequence .last .1 .0) (loop .lits) (sequence .last .1 .1 .0) (sequence .result) (loop .inv .0) (sequence .ensures) (r .given .0 .0) (r .given .0 .1 .0) (r .given .0 .1 .1 .0) (r .given .1)) in omega (arith, v .nodes, v .inside, pre .1 .0 .short)
+  alternation-same-length-2 : Alternation alternation-lts.Need-same-length-2
+  alternation-same-length-2 c = search needs
 
-alternation-is-requires : (t : ℕ) → alternation-lts.Need-is-requires (
-  sequence-below t,
-  sequence.Post,
-  emit-if-reads.Asked,
-  emit-if-reads.Learnt,
-  is-reads.Asked,
-  is-reads.Learnt,
-) (alternation-at t) alternation.Post alternation-Inv-loop alternation-μ-loop
-alternation-is-requires t c κs = search needs
+  alternation-returns : Alternation alternation-lts.Need-returns
+  alternation-returns c =
+      let sequence = c .before .before .before .before .before .before .sequence in
+      let loop = c .before .before .before .before .before .before .before .before .before .loop in
+      let args = c .before .before .before .before .before .before .before .before .before .before .before .before .before .args in
+      alt-up (args .text .now) (args .allowed) (args .at) (out (args .n) (args .nodes .now) (args .l) (args .lits .now)) (loop .again) (loop .next) (loop .m) (loop .k) (loop .nodes) (sequence .last .1 .0) (loop .lits) (sequence .last .1 .1 .0) (sequence .result) (loop .inv .0) (sequence .ensures) ((c .enum-told) .given .0 .0) ((c .enum-told) .given .1)
 
-alternation-same-length-3 : (t : ℕ) → alternation-lts.Need-same-length-3 (
-  sequence-below t,
-  sequence.Post,
-  emit-if-reads.Asked,
-  emit-if-reads.Learnt,
-  is-reads.Asked,
-  is-reads.Learnt,
-) (alternation-at t) alternation.Post alternation-Inv-loop alternation-μ-loop
-alternation-same-length-3 t c = search needs
+  alternation-emit-if-requires : Alternation alternation-lts.Need-emit-if-requires
+  alternation-emit-if-requires c κs =
+      let r = c .before .before .r in
+      let sequence = c .before .before .before .before .before .before .before .before .sequence in
+      let loop = c .before .before .before .before .before .before .before .before .before .before .before .loop in
+      let args = c .before .before .before .before .before .before .before .before .before .before .before .before .before .before .before .args in
+      let pre = c .before .before .before .before .before .before .before .before .before .before .before .before .before .before .before .pre in
+      let v = (seq-onward (args .text .now) (args .allowed) (args .at) (out (args .n) (args .nodes .now) (args .l) (args .lits .now)) (loop .again) (loop .next) (loop .m) (loop .k) (loop .nodes) (sequence .last .1 .0) (loop .lits) (sequence .last .1 .1 .0) (sequence .result) (loop .inv .0) (sequence .ensures) (r .given .0 .0) (r .given .0 .1 .0) (r .given .0 .1 .1 .0) (r .given .1)) in omega (arith, v .nodes, v .inside, pre .1 .0 .short)
 
-alternation-same-length-4 : (t : ℕ) → alternation-lts.Need-same-length-4 (
-  sequence-below t,
-  sequence.Post,
-  emit-if-reads.Asked,
-  emit-if-reads.Learnt,
-  is-reads.Asked,
-  is-reads.Learnt,
-) (alternation-at t) alternation.Post alternation-Inv-loop alternation-μ-loop
-alternation-same-length-4 t c = search needs
+  alternation-is-requires : Alternation alternation-lts.Need-is-requires
+  alternation-is-requires c κs = search needs
 
-alternation-returns-2 : (t : ℕ) → alternation-lts.Need-returns-2 (
-  sequence-below t,
-  sequence.Post,
-  emit-if-reads.Asked,
-  emit-if-reads.Learnt,
-  is-reads.Asked,
-  is-reads.Learnt,
-) (alternation-at t) alternation.Post alternation-Inv-loop alternation-μ-loop
-alternation-returns-2 t c =
-    let emit-if = c .before .before .before .before .emit-if in
-    let r = c .before .before .before .before .before .before .before .r in
-    let sequence = c .before .before .before .before .before .before .before .before .before .before .before .before .before .sequence in
-    let loop = c .before .before .before .before .before .before .before .before .before .before .before .before .before .before .before .before .loop in
-    let args = c .before .before .before .before .before .before .before .before .before .before .before .before .before .before .before .before .before .before .before .before .args in
-    alt-over (args .text .now) (args .allowed) (args .at) (out (args .n) (args .nodes .now) (args .l) (args .lits .now)) (loop .again) (loop .next) (loop .m) (loop .k) (loop .nodes) (sequence .last .1 .0) (loop .lits) (sequence .last .1 .1 .0) (sequence .result) (loop .inv .0) (sequence .ensures) (r .given .0 .0) (r .given .0 .1 .0) (r .given .0 .1 .1 .0) (r .given .1) (emit-if .result) (emit-if .last .0) (emit-if .ensures) (loop .inv .1) (sym ((c .before .is) .ensures) ∙ not-true ((c .before .is) .result) ((c .if1) .taken))
+  alternation-same-length-3 : Alternation alternation-lts.Need-same-length-3
+  alternation-same-length-3 c = search needs
 
-alternation-add-next : (t : ℕ) → alternation-lts.Need-add-next (
-  sequence-below t,
-  sequence.Post,
-  emit-if-reads.Asked,
-  emit-if-reads.Learnt,
-  is-reads.Asked,
-  is-reads.Learnt,
-) (alternation-at t) alternation.Post alternation-Inv-loop alternation-μ-loop
-alternation-add-next t c =
-    let r = c .before .before .before .before .before .before .before .r in
-    let sequence = c .before .before .before .before .before .before .before .before .before .before .before .before .before .sequence in
-    let loop = c .before .before .before .before .before .before .before .before .before .before .before .before .before .before .before .before .loop in
-    let args = c .before .before .before .before .before .before .before .before .before .before .before .before .before .before .before .before .before .before .before .before .args in
-    let pre = c .before .before .before .before .before .before .before .before .before .before .before .before .before .before .before .before .before .before .before .before .pre in
-    let v = (seq-onward (args .text .now) (args .allowed) (args .at) (out (args .n) (args .nodes .now) (args .l) (args .lits .now)) (loop .again) (loop .next) (loop .m) (loop .k) (loop .nodes) (sequence .last .1 .0) (loop .lits) (sequence .last .1 .1 .0) (sequence .result) (loop .inv .0) (sequence .ensures) (r .given .0 .0) (r .given .0 .1 .0) (r .given .0 .1 .1 .0) (r .given .1)) in omega (arith, v .inside, pre .1 .0 .short)
+  alternation-same-length-4 : Alternation alternation-lts.Need-same-length-4
+  alternation-same-length-4 c = search needs
 
-alternation-loop-less : (t : ℕ) → alternation-lts.Need-loop-less (
-  sequence-below t,
-  sequence.Post,
-  emit-if-reads.Asked,
-  emit-if-reads.Learnt,
-  is-reads.Asked,
-  is-reads.Learnt,
-) (alternation-at t) alternation.Post alternation-Inv-loop alternation-μ-loop
-alternation-loop-less t c =
-    let r = c .before .before .before .before .before .before .before .r in
-    let sequence = c .before .before .before .before .before .before .before .before .before .before .before .before .before .sequence in
-    let loop = c .before .before .before .before .before .before .before .before .before .before .before .before .before .before .before .before .loop in
-    let args = c .before .before .before .before .before .before .before .before .before .before .before .before .before .before .before .before .before .before .before .before .args in
-    let v = (seq-onward (args .text .now) (args .allowed) (args .at) (out (args .n) (args .nodes .now) (args .l) (args .lits .now)) (loop .again) (loop .next) (loop .m) (loop .k) (loop .nodes) (sequence .last .1 .0) (loop .lits) (sequence .last .1 .1 .0) (sequence .result) (loop .inv .0) (sequence .ensures) (r .given .0 .0) (r .given .0 .1 .0) (r .given .0 .1 .1 .0) (r .given .1)) in omega (arith, v .further, v .inside, byte-inside (args .text .now) (r .given .0 .0) bar (sym ((c .before .is) .ensures) ∙ not-false ((c .before .is) .result) ((c .if1) .left)))
+  alternation-returns-2 : Alternation alternation-lts.Need-returns-2
+  alternation-returns-2 c =
+      let emit-if = c .before .before .before .before .emit-if in
+      let r = c .before .before .before .before .before .before .before .r in
+      let sequence = c .before .before .before .before .before .before .before .before .before .before .before .before .before .sequence in
+      let loop = c .before .before .before .before .before .before .before .before .before .before .before .before .before .before .before .before .loop in
+      let args = c .before .before .before .before .before .before .before .before .before .before .before .before .before .before .before .before .before .before .before .before .args in
+      alt-over (args .text .now) (args .allowed) (args .at) (out (args .n) (args .nodes .now) (args .l) (args .lits .now)) (loop .again) (loop .next) (loop .m) (loop .k) (loop .nodes) (sequence .last .1 .0) (loop .lits) (sequence .last .1 .1 .0) (sequence .result) (loop .inv .0) (sequence .ensures) (r .given .0 .0) (r .given .0 .1 .0) (r .given .0 .1 .1 .0) (r .given .1) (emit-if .result) (emit-if .last .0) (emit-if .ensures) (loop .inv .1) (sym ((c .before .is) .ensures) ∙ not-true ((c .before .is) .result) ((c .if1) .taken))
 
-alternation-loop-again : (t : ℕ) → alternation-lts.Need-loop-again (
-  sequence-below t,
-  sequence.Post,
-  emit-if-reads.Asked,
-  emit-if-reads.Learnt,
-  is-reads.Asked,
-  is-reads.Learnt,
-) (alternation-at t) alternation.Post alternation-Inv-loop alternation-μ-loop
-alternation-loop-again t c =
-    let emit-if = c .before .before .before .before .emit-if in
-    let r = c .before .before .before .before .before .before .before .r in
-    let sequence = c .before .before .before .before .before .before .before .before .before .before .before .before .before .sequence in
-    let loop = c .before .before .before .before .before .before .before .before .before .before .before .before .before .before .before .before .loop in
-    let args = c .before .before .before .before .before .before .before .before .before .before .before .before .before .before .before .before .before .before .before .before .args in
-    let pre = c .before .before .before .before .before .before .before .before .before .before .before .before .before .before .before .before .before .before .before .before .pre in
-    let v = (seq-onward (args .text .now) (args .allowed) (args .at) (out (args .n) (args .nodes .now) (args .l) (args .lits .now)) (loop .again) (loop .next) (loop .m) (loop .k) (loop .nodes) (sequence .last .1 .0) (loop .lits) (sequence .last .1 .1 .0) (sequence .result) (loop .inv .0) (sequence .ensures) (r .given .0 .0) (r .given .0 .1 .0) (r .given .0 .1 .1 .0) (r .given .1)) in (alt-again (args .text .now) (args .allowed) (args .at) (out (args .n) (args .nodes .now) (args .l) (args .lits .now)) (loop .again) (loop .next) (loop .m) (loop .k) (loop .nodes) (sequence .last .1 .0) (loop .lits) (sequence .last .1 .1 .0) (sequence .result) (loop .inv .0) (sequence .ensures) (r .given .0 .0) (r .given .0 .1 .0) (r .given .0 .1 .1 .0) (r .given .1) (emit-if .result) (emit-if .last .0) (emit-if .ensures) (sym ((c .before .is) .ensures) ∙ not-false ((c .before .is) .result) ((c .if1) .left)), omega (arith, v .further, loop .inv .1), alt-begun (args .text .now) (args .allowed) (args .at) (out (args .n) (args .nodes .now) (args .l) (args .lits .now)) (loop .again) (loop .next) (loop .m) (loop .k) (loop .nodes) (sequence .last .1 .0) (loop .lits) (sequence .last .1 .1 .0) (sequence .result) (loop .inv .0) (sequence .ensures) (r .given .0 .0) (r .given .0 .1 .0) (r .given .0 .1 .1 .0) (r .given .1) (emit-if .result) (emit-if .last .0) (emit-if .ensures) (sym ((c .before .is) .ensures) ∙ not-false ((c .before .is) .result) ((c .if1) .left)) (pre .1 .0 .short), omega (arith, emit-if .kept, sequence .kept, loop .inv .3), omega (arith, sequence .kept, loop .inv .4))
+  alternation-add-next : Alternation alternation-lts.Need-add-next
+  alternation-add-next c =
+      let r = c .before .before .before .before .before .before .before .r in
+      let sequence = c .before .before .before .before .before .before .before .before .before .before .before .before .before .sequence in
+      let loop = c .before .before .before .before .before .before .before .before .before .before .before .before .before .before .before .before .loop in
+      let args = c .before .before .before .before .before .before .before .before .before .before .before .before .before .before .before .before .before .before .before .before .args in
+      let pre = c .before .before .before .before .before .before .before .before .before .before .before .before .before .before .before .before .before .before .before .before .pre in
+      let v = (seq-onward (args .text .now) (args .allowed) (args .at) (out (args .n) (args .nodes .now) (args .l) (args .lits .now)) (loop .again) (loop .next) (loop .m) (loop .k) (loop .nodes) (sequence .last .1 .0) (loop .lits) (sequence .last .1 .1 .0) (sequence .result) (loop .inv .0) (sequence .ensures) (r .given .0 .0) (r .given .0 .1 .0) (r .given .0 .1 .1 .0) (r .given .1)) in omega (arith, v .inside, pre .1 .0 .short)
+
+  alternation-loop-less : Alternation alternation-lts.Need-loop-less
+  alternation-loop-less c =
+      let r = c .before .before .before .before .before .before .before .r in
+      let sequence = c .before .before .before .before .before .before .before .before .before .before .before .before .before .sequence in
+      let loop = c .before .before .before .before .before .before .before .before .before .before .before .before .before .before .before .before .loop in
+      let args = c .before .before .before .before .before .before .before .before .before .before .before .before .before .before .before .before .before .before .before .before .args in
+      let v = (seq-onward (args .text .now) (args .allowed) (args .at) (out (args .n) (args .nodes .now) (args .l) (args .lits .now)) (loop .again) (loop .next) (loop .m) (loop .k) (loop .nodes) (sequence .last .1 .0) (loop .lits) (sequence .last .1 .1 .0) (sequence .result) (loop .inv .0) (sequence .ensures) (r .given .0 .0) (r .given .0 .1 .0) (r .given .0 .1 .1 .0) (r .given .1)) in omega (arith, v .further, v .inside, byte-inside (args .text .now) (r .given .0 .0) bar (sym ((c .before .is) .ensures) ∙ not-false ((c .before .is) .result) ((c .if1) .left)))
+
+  alternation-loop-again : Alternation alternation-lts.Need-loop-again
+  alternation-loop-again c =
+      let emit-if = c .before .before .before .before .emit-if in
+      let r = c .before .before .before .before .before .before .before .r in
+      let sequence = c .before .before .before .before .before .before .before .before .before .before .before .before .before .sequence in
+      let loop = c .before .before .before .before .before .before .before .before .before .before .before .before .before .before .before .before .loop in
+      let args = c .before .before .before .before .before .before .before .before .before .before .before .before .before .before .before .before .before .before .before .before .args in
+      let pre = c .before .before .before .before .before .before .before .before .before .before .before .before .before .before .before .before .before .before .before .before .pre in
+      let v = (seq-onward (args .text .now) (args .allowed) (args .at) (out (args .n) (args .nodes .now) (args .l) (args .lits .now)) (loop .again) (loop .next) (loop .m) (loop .k) (loop .nodes) (sequence .last .1 .0) (loop .lits) (sequence .last .1 .1 .0) (sequence .result) (loop .inv .0) (sequence .ensures) (r .given .0 .0) (r .given .0 .1 .0) (r .given .0 .1 .1 .0) (r .given .1)) in (alt-again (args .text .now) (args .allowed) (args .at) (out (args .n) (args .nodes .now) (args .l) (args .lits .now)) (loop .again) (loop .next) (loop .m) (loop .k) (loop .nodes) (sequence .last .1 .0) (loop .lits) (sequence .last .1 .1 .0) (sequence .result) (loop .inv .0) (sequence .ensures) (r .given .0 .0) (r .given .0 .1 .0) (r .given .0 .1 .1 .0) (r .given .1) (emit-if .result) (emit-if .last .0) (emit-if .ensures) (sym ((c .before .is) .ensures) ∙ not-false ((c .before .is) .result) ((c .if1) .left)), omega (arith, v .further, loop .inv .1), alt-begun (args .text .now) (args .allowed) (args .at) (out (args .n) (args .nodes .now) (args .l) (args .lits .now)) (loop .again) (loop .next) (loop .m) (loop .k) (loop .nodes) (sequence .last .1 .0) (loop .lits) (sequence .last .1 .1 .0) (sequence .result) (loop .inv .0) (sequence .ensures) (r .given .0 .0) (r .given .0 .1 .0) (r .given .0 .1 .1 .0) (r .given .1) (emit-if .result) (emit-if .last .0) (emit-if .ensures) (sym ((c .before .is) .ensures) ∙ not-false ((c .before .is) .result) ((c .if1) .left)) (pre .1 .0 .short), omega (arith, emit-if .kept, sequence .kept, loop .inv .3), omega (arith, sequence .kept, loop .inv .4))
 
 abbrev sequence-Inv-loop : sequence-lts.InvT-loop
 sequence-Inv-loop text nodes₀ lits₀ at n l allowed next₀ m₀ k₀ again₀ nodes lits next m k again =
@@ -271,1014 +174,319 @@ abbrev sequence-μ-loop : sequence-lts.MeasureT-loop
 sequence-μ-loop text nodes₀ lits₀ at n l allowed next₀ m₀ k₀ again₀ nodes lits next m k again =
     length text - next
 
-sequence-loop-holds : (t : ℕ) → sequence-lts.Need-loop-holds (
-  unit-below t,
-  unit.Post,
-  emit-if-reads.Asked,
-  emit-if-reads.Learnt,
-  unit-at-reads.Asked,
-  unit-at-reads.Learnt,
-) (sequence-at t) sequence.Post sequence-Inv-loop sequence-μ-loop
-sequence-loop-holds t c =
-    let args = c .before .before .before .args in
-    let pre = c .before .before .before .pre in
-    (seq-starts (args .text .now) (args .allowed) (args .at) (out (args .n) (args .nodes .now) (args .l) (args .lits .now)), omega arith, pre .1 .0, refl, refl)
+module _ (t : ℕ) where
+  abbrev sequence-claims : sequence-lts.Claims
+  sequence-claims = (unit-below t, unit.Post, emit-if-reads.Asked, emit-if-reads.Learnt, unit-at-reads.Asked, unit-at-reads.Learnt)
 
-sequence-unit-requires : (t : ℕ) → sequence-lts.Need-unit-requires (
-  unit-below t,
-  unit.Post,
-  emit-if-reads.Asked,
-  emit-if-reads.Learnt,
-  unit-at-reads.Asked,
-  unit-at-reads.Learnt,
-) (sequence-at t) sequence.Post sequence-Inv-loop sequence-μ-loop
-sequence-unit-requires t c κs =
-    let loop = c .before .before .loop in
-    let pre = c .before .before .before .before .before .before .pre in
-    let v = loop .inv in (omega (arith, pre .0, v .1, v .2 .inside), (v .2, pre .1 .1))
+  -- of what `sequence` needs and knows, at the measure t
+  abbrev Sequence : (sequence-lts.Claims → In 3 sequence-kinds.ps → Out 3 sequence-kinds.ps sequence-kinds.r → sequence-lts.InvT-loop → sequence-lts.MeasureT-loop → Type 0) → Type 0
+  Sequence of = of sequence-claims (sequence-at t) sequence.Post sequence-Inv-loop sequence-μ-loop
 
-sequence-enum-known-r : (t : ℕ) → sequence-lts.Need-enum-known-r (
-  unit-below t,
-  unit.Post,
-  emit-if-reads.Asked,
-  emit-if-reads.Learnt,
-  unit-at-reads.Asked,
-  unit-at-reads.Learnt,
-) (sequence-at t) sequence.Post sequence-Inv-loop sequence-μ-loop
-sequence-enum-known-r t c = search needs
+  sequence-loop-holds : Sequence sequence-lts.Need-loop-holds
+  sequence-loop-holds c =
+      let args = c .before .before .before .args in
+      let pre = c .before .before .before .pre in
+      (seq-starts (args .text .now) (args .allowed) (args .at) (out (args .n) (args .nodes .now) (args .l) (args .lits .now)), omega arith, pre .1 .0, refl, refl)
 
-sequence-enum-told : (t : ℕ) → sequence-lts.Need-enum-told (
-  unit-below t,
-  unit.Post,
-  emit-if-reads.Asked,
-  emit-if-reads.Learnt,
-  unit-at-reads.Asked,
-  unit-at-reads.Learnt,
-) (sequence-at t) sequence.Post sequence-Inv-loop sequence-μ-loop
-sequence-enum-told t c = search needs
+  sequence-unit-requires : Sequence sequence-lts.Need-unit-requires
+  sequence-unit-requires c κs =
+      let loop = c .before .before .loop in
+      let pre = c .before .before .before .before .before .before .pre in
+      let v = loop .inv in (omega (arith, pre .0, v .1, v .2 .inside), (v .2, pre .1 .1))
 
-sequence-same-length : (t : ℕ) → sequence-lts.Need-same-length (
-  unit-below t,
-  unit.Post,
-  emit-if-reads.Asked,
-  emit-if-reads.Learnt,
-  unit-at-reads.Asked,
-  unit-at-reads.Learnt,
-) (sequence-at t) sequence.Post sequence-Inv-loop sequence-μ-loop
-sequence-same-length t c = search needs
+  sequence-enum-known-r : Sequence sequence-lts.Need-enum-known-r
+  sequence-enum-known-r c = search needs
 
-sequence-same-length-2 : (t : ℕ) → sequence-lts.Need-same-length-2 (
-  unit-below t,
-  unit.Post,
-  emit-if-reads.Asked,
-  emit-if-reads.Learnt,
-  unit-at-reads.Asked,
-  unit-at-reads.Learnt,
-) (sequence-at t) sequence.Post sequence-Inv-loop sequence-μ-loop
-sequence-same-length-2 t c = search needs
+  sequence-enum-told : Sequence sequence-lts.Need-enum-told
+  sequence-enum-told c = search needs
 
-sequence-returns : (t : ℕ) → sequence-lts.Need-returns (
-  unit-below t,
-  unit.Post,
-  emit-if-reads.Asked,
-  emit-if-reads.Learnt,
-  unit-at-reads.Asked,
-  unit-at-reads.Learnt,
-) (sequence-at t) sequence.Post sequence-Inv-loop sequence-μ-loop
-sequence-returns t c =
-    let unit = c .before .before .before .before .before .before .unit in
-    let loop = c .before .before .before .before .before .before .before .before .before .loop in
-    let args = c .before .before .before .before .before .before .before .before .before .before .before .before .before .args in
-    seq-up (args .text .now) (args .allowed) (args .at) (out (args .n) (args .nodes .now) (args .l) (args .lits .now)) (loop .again) (loop .next) (loop .m) (loop .k) (loop .nodes) (unit .last .1 .0) (loop .lits) (unit .last .1 .1 .0) (unit .result) (loop .inv .0) (unit .ensures) ((c .enum-told) .given .0 .0) ((c .enum-told) .given .1)
+  sequence-same-length : Sequence sequence-lts.Need-same-length
+  sequence-same-length c = search needs
 
-sequence-emit-if-requires : (t : ℕ) → sequence-lts.Need-emit-if-requires (
-  unit-below t,
-  unit.Post,
-  emit-if-reads.Asked,
-  emit-if-reads.Learnt,
-  unit-at-reads.Asked,
-  unit-at-reads.Learnt,
-) (sequence-at t) sequence.Post sequence-Inv-loop sequence-μ-loop
-sequence-emit-if-requires t c κs =
-    let r = c .before .before .r in
-    let unit = c .before .before .before .before .before .before .before .before .unit in
-    let loop = c .before .before .before .before .before .before .before .before .before .before .before .loop in
-    let args = c .before .before .before .before .before .before .before .before .before .before .before .before .before .before .before .args in
-    let pre = c .before .before .before .before .before .before .before .before .before .before .before .before .before .before .before .pre in
-    let v = (unit-onward (args .text .now) (args .allowed) (args .at) (out (args .n) (args .nodes .now) (args .l) (args .lits .now)) (loop .again) (loop .next) (loop .m) (loop .k) (loop .nodes) (unit .last .1 .0) (loop .lits) (unit .last .1 .1 .0) (unit .result) (loop .inv .0) (unit .ensures) (r .given .0 .0) (r .given .0 .1 .0) (r .given .0 .1 .1 .0) (r .given .1)) in omega (arith, v .nodes, v .inside, pre .1 .0 .short)
+  sequence-same-length-2 : Sequence sequence-lts.Need-same-length-2
+  sequence-same-length-2 c = search needs
 
-sequence-unit-at-requires : (t : ℕ) → sequence-lts.Need-unit-at-requires (
-  unit-below t,
-  unit.Post,
-  emit-if-reads.Asked,
-  emit-if-reads.Learnt,
-  unit-at-reads.Asked,
-  unit-at-reads.Learnt,
-) (sequence-at t) sequence.Post sequence-Inv-loop sequence-μ-loop
-sequence-unit-at-requires t c κs = search needs
+  sequence-returns : Sequence sequence-lts.Need-returns
+  sequence-returns c =
+      let unit = c .before .before .before .before .before .before .unit in
+      let loop = c .before .before .before .before .before .before .before .before .before .loop in
+      let args = c .before .before .before .before .before .before .before .before .before .before .before .before .before .args in
+      seq-up (args .text .now) (args .allowed) (args .at) (out (args .n) (args .nodes .now) (args .l) (args .lits .now)) (loop .again) (loop .next) (loop .m) (loop .k) (loop .nodes) (unit .last .1 .0) (loop .lits) (unit .last .1 .1 .0) (unit .result) (loop .inv .0) (unit .ensures) ((c .enum-told) .given .0 .0) ((c .enum-told) .given .1)
 
-sequence-same-length-3 : (t : ℕ) → sequence-lts.Need-same-length-3 (
-  unit-below t,
-  unit.Post,
-  emit-if-reads.Asked,
-  emit-if-reads.Learnt,
-  unit-at-reads.Asked,
-  unit-at-reads.Learnt,
-) (sequence-at t) sequence.Post sequence-Inv-loop sequence-μ-loop
-sequence-same-length-3 t c = search needs
+  sequence-emit-if-requires : Sequence sequence-lts.Need-emit-if-requires
+  sequence-emit-if-requires c κs =
+      let r = c .before .before .r in
+      let unit = c .before .before .before .before .before .before .before .before .unit in
+      let loop = c .before .before .before .before .before .before .before .before .before .before .before .loop in
+      let args = c .before .before .before .before .before .before .before .before .before .before .before .before .before .before .before .args in
+      let pre = c .before .before .before .before .before .before .before .before .before .before .before .before .before .before .before .pre in
+      let v = (unit-onward (args .text .now) (args .allowed) (args .at) (out (args .n) (args .nodes .now) (args .l) (args .lits .now)) (loop .again) (loop .next) (loop .m) (loop .k) (loop .nodes) (unit .last .1 .0) (loop .lits) (unit .last .1 .1 .0) (unit .result) (loop .inv .0) (unit .ensures) (r .given .0 .0) (r .given .0 .1 .0) (r .given .0 .1 .1 .0) (r .given .1)) in omega (arith, v .nodes, v .inside, pre .1 .0 .short)
 
-sequence-same-length-4 : (t : ℕ) → sequence-lts.Need-same-length-4 (
-  unit-below t,
-  unit.Post,
-  emit-if-reads.Asked,
-  emit-if-reads.Learnt,
-  unit-at-reads.Asked,
-  unit-at-reads.Learnt,
-) (sequence-at t) sequence.Post sequence-Inv-loop sequence-μ-loop
-sequence-same-length-4 t c = search needs
+  sequence-unit-at-requires : Sequence sequence-lts.Need-unit-at-requires
+  sequence-unit-at-requires c κs = search needs
 
-sequence-returns-2 : (t : ℕ) → sequence-lts.Need-returns-2 (
-  unit-below t,
-  unit.Post,
-  emit-if-reads.Asked,
-  emit-if-reads.Learnt,
-  unit-at-reads.Asked,
-  unit-at-reads.Learnt,
-) (sequence-at t) sequence.Post sequence-Inv-loop sequence-μ-loop
-sequence-returns-2 t c =
-    let emit-if = c .before .before .before .before .emit-if in
-    let r = c .before .before .before .before .before .before .before .r in
-    let unit = c .before .before .before .before .before .before .before .before .before .before .before .before .before .unit in
-    let loop = c .before .before .before .before .before .before .before .before .before .before .before .before .before .before .before .before .loop in
-    let args = c .before .before .before .before .before .before .before .before .before .before .before .before .before .before .before .before .before .before .before .before .args in
-    seq-over (args .text .now) (args .allowed) (args .at) (out (args .n) (args .nodes .now) (args .l) (args .lits .now)) (loop .again) (loop .next) (loop .m) (loop .k) (loop .nodes) (unit .last .1 .0) (loop .lits) (unit .last .1 .1 .0) (unit .result) (loop .inv .0) (unit .ensures) (r .given .0 .0) (r .given .0 .1 .0) (r .given .0 .1 .1 .0) (r .given .1) (emit-if .result) (emit-if .last .0) (emit-if .ensures) (loop .inv .1) (sym ((c .before .unit-at) .ensures) ∙ not-true ((c .before .unit-at) .result) ((c .if1) .taken))
+  sequence-same-length-3 : Sequence sequence-lts.Need-same-length-3
+  sequence-same-length-3 c = search needs
 
-sequence-loop-less : (t : ℕ) → sequence-lts.Need-loop-less (
-  unit-below t,
-  unit.Post,
-  emit-if-reads.Asked,
-  emit-if-reads.Learnt,
-  unit-at-reads.Asked,
-  unit-at-reads.Learnt,
-) (sequence-at t) sequence.Post sequence-Inv-loop sequence-μ-loop
-sequence-loop-less t c =
-    let r = c .before .before .before .before .before .before .before .r in
-    let unit = c .before .before .before .before .before .before .before .before .before .before .before .before .before .unit in
-    let loop = c .before .before .before .before .before .before .before .before .before .before .before .before .before .before .before .before .loop in
-    let args = c .before .before .before .before .before .before .before .before .before .before .before .before .before .before .before .before .before .before .before .before .args in
-    let v = (unit-onward (args .text .now) (args .allowed) (args .at) (out (args .n) (args .nodes .now) (args .l) (args .lits .now)) (loop .again) (loop .next) (loop .m) (loop .k) (loop .nodes) (unit .last .1 .0) (loop .lits) (unit .last .1 .1 .0) (unit .result) (loop .inv .0) (unit .ensures) (r .given .0 .0) (r .given .0 .1 .0) (r .given .0 .1 .1 .0) (r .given .1)) in omega (arith, v .further, v .inside)
+  sequence-same-length-4 : Sequence sequence-lts.Need-same-length-4
+  sequence-same-length-4 c = search needs
 
-sequence-loop-again : (t : ℕ) → sequence-lts.Need-loop-again (
-  unit-below t,
-  unit.Post,
-  emit-if-reads.Asked,
-  emit-if-reads.Learnt,
-  unit-at-reads.Asked,
-  unit-at-reads.Learnt,
-) (sequence-at t) sequence.Post sequence-Inv-loop sequence-μ-loop
-sequence-loop-again t c =
-    let emit-if = c .before .before .before .before .emit-if in
-    let r = c .before .before .before .before .before .before .before .r in
-    let unit = c .before .before .before .before .before .before .before .before .before .before .before .before .before .unit in
-    let loop = c .before .before .before .before .before .before .before .before .before .before .before .before .before .before .before .before .loop in
-    let args = c .before .before .before .before .before .before .before .before .before .before .before .before .before .before .before .before .before .before .before .before .args in
-    let pre = c .before .before .before .before .before .before .before .before .before .before .before .before .before .before .before .before .before .before .before .before .pre in
-    let v = (unit-onward (args .text .now) (args .allowed) (args .at) (out (args .n) (args .nodes .now) (args .l) (args .lits .now)) (loop .again) (loop .next) (loop .m) (loop .k) (loop .nodes) (unit .last .1 .0) (loop .lits) (unit .last .1 .1 .0) (unit .result) (loop .inv .0) (unit .ensures) (r .given .0 .0) (r .given .0 .1 .0) (r .given .0 .1 .1 .0) (r .given .1)) in (seq-again (args .text .now) (args .allowed) (args .at) (out (args .n) (args .nodes .now) (args .l) (args .lits .now)) (loop .again) (loop .next) (loop .m) (loop .k) (loop .nodes) (unit .last .1 .0) (loop .lits) (unit .last .1 .1 .0) (unit .result) (loop .inv .0) (unit .ensures) (r .given .0 .0) (r .given .0 .1 .0) (r .given .0 .1 .1 .0) (r .given .1) (emit-if .result) (emit-if .last .0) (emit-if .ensures) (sym ((c .before .unit-at) .ensures) ∙ not-false ((c .before .unit-at) .result) ((c .if1) .left)), omega (arith, v .further, loop .inv .1), seq-begun (args .text .now) (args .allowed) (args .at) (out (args .n) (args .nodes .now) (args .l) (args .lits .now)) (loop .again) (loop .next) (loop .m) (loop .k) (loop .nodes) (unit .last .1 .0) (loop .lits) (unit .last .1 .1 .0) (unit .result) (loop .inv .0) (unit .ensures) (r .given .0 .0) (r .given .0 .1 .0) (r .given .0 .1 .1 .0) (r .given .1) (emit-if .result) (emit-if .last .0) (emit-if .ensures) (pre .1 .0 .short), omega (arith, emit-if .kept, unit .kept, loop .inv .3), omega (arith, unit .kept, loop .inv .4))
+  sequence-returns-2 : Sequence sequence-lts.Need-returns-2
+  sequence-returns-2 c =
+      let emit-if = c .before .before .before .before .emit-if in
+      let r = c .before .before .before .before .before .before .before .r in
+      let unit = c .before .before .before .before .before .before .before .before .before .before .before .before .before .unit in
+      let loop = c .before .before .before .before .before .before .before .before .before .before .before .before .before .before .before .before .loop in
+      let args = c .before .before .before .before .before .before .before .before .before .before .before .before .before .before .before .before .before .before .before .before .args in
+      seq-over (args .text .now) (args .allowed) (args .at) (out (args .n) (args .nodes .now) (args .l) (args .lits .now)) (loop .again) (loop .next) (loop .m) (loop .k) (loop .nodes) (unit .last .1 .0) (loop .lits) (unit .last .1 .1 .0) (unit .result) (loop .inv .0) (unit .ensures) (r .given .0 .0) (r .given .0 .1 .0) (r .given .0 .1 .1 .0) (r .given .1) (emit-if .result) (emit-if .last .0) (emit-if .ensures) (loop .inv .1) (sym ((c .before .unit-at) .ensures) ∙ not-true ((c .before .unit-at) .result) ((c .if1) .taken))
 
-unit-is-requires : (t : ℕ) → unit-lts.Need-is-requires (
-  is-reads.Asked,
-  is-reads.Learnt,
-  refused-reads.Asked,
-  refused-reads.Learnt,
-  emit-reads.Asked,
-  emit-reads.Learnt,
-  stars-reads.Asked,
-  stars-reads.Learnt,
-  alternation-below t,
-  alternation.Post,
-  unit-at-reads.Asked,
-  unit-at-reads.Learnt,
-  literal-reads.Asked,
-  literal-reads.Learnt,
-  missing-reads.Asked,
-  missing-reads.Learnt,
-) (unit-at t) unit.Post
-unit-is-requires t c κs = search needs
+  sequence-loop-less : Sequence sequence-lts.Need-loop-less
+  sequence-loop-less c =
+      let r = c .before .before .before .before .before .before .before .r in
+      let unit = c .before .before .before .before .before .before .before .before .before .before .before .before .before .unit in
+      let loop = c .before .before .before .before .before .before .before .before .before .before .before .before .before .before .before .before .loop in
+      let args = c .before .before .before .before .before .before .before .before .before .before .before .before .before .before .before .before .before .before .before .before .args in
+      let v = (unit-onward (args .text .now) (args .allowed) (args .at) (out (args .n) (args .nodes .now) (args .l) (args .lits .now)) (loop .again) (loop .next) (loop .m) (loop .k) (loop .nodes) (unit .last .1 .0) (loop .lits) (unit .last .1 .1 .0) (unit .result) (loop .inv .0) (unit .ensures) (r .given .0 .0) (r .given .0 .1 .0) (r .given .0 .1 .1 .0) (r .given .1)) in omega (arith, v .further, v .inside)
 
-unit-refused-requires : (t : ℕ) → unit-lts.Need-refused-requires (
-  is-reads.Asked,
-  is-reads.Learnt,
-  refused-reads.Asked,
-  refused-reads.Learnt,
-  emit-reads.Asked,
-  emit-reads.Learnt,
-  stars-reads.Asked,
-  stars-reads.Learnt,
-  alternation-below t,
-  alternation.Post,
-  unit-at-reads.Asked,
-  unit-at-reads.Learnt,
-  literal-reads.Asked,
-  literal-reads.Learnt,
-  missing-reads.Asked,
-  missing-reads.Learnt,
-) (unit-at t) unit.Post
-unit-refused-requires t c κs = search needs
+  sequence-loop-again : Sequence sequence-lts.Need-loop-again
+  sequence-loop-again c =
+      let emit-if = c .before .before .before .before .emit-if in
+      let r = c .before .before .before .before .before .before .before .r in
+      let unit = c .before .before .before .before .before .before .before .before .before .before .before .before .before .unit in
+      let loop = c .before .before .before .before .before .before .before .before .before .before .before .before .before .before .before .before .loop in
+      let args = c .before .before .before .before .before .before .before .before .before .before .before .before .before .before .before .before .before .before .before .before .args in
+      let pre = c .before .before .before .before .before .before .before .before .before .before .before .before .before .before .before .before .before .before .before .before .pre in
+      let v = (unit-onward (args .text .now) (args .allowed) (args .at) (out (args .n) (args .nodes .now) (args .l) (args .lits .now)) (loop .again) (loop .next) (loop .m) (loop .k) (loop .nodes) (unit .last .1 .0) (loop .lits) (unit .last .1 .1 .0) (unit .result) (loop .inv .0) (unit .ensures) (r .given .0 .0) (r .given .0 .1 .0) (r .given .0 .1 .1 .0) (r .given .1)) in (seq-again (args .text .now) (args .allowed) (args .at) (out (args .n) (args .nodes .now) (args .l) (args .lits .now)) (loop .again) (loop .next) (loop .m) (loop .k) (loop .nodes) (unit .last .1 .0) (loop .lits) (unit .last .1 .1 .0) (unit .result) (loop .inv .0) (unit .ensures) (r .given .0 .0) (r .given .0 .1 .0) (r .given .0 .1 .1 .0) (r .given .1) (emit-if .result) (emit-if .last .0) (emit-if .ensures) (sym ((c .before .unit-at) .ensures) ∙ not-false ((c .before .unit-at) .result) ((c .if1) .left)), omega (arith, v .further, loop .inv .1), seq-begun (args .text .now) (args .allowed) (args .at) (out (args .n) (args .nodes .now) (args .l) (args .lits .now)) (loop .again) (loop .next) (loop .m) (loop .k) (loop .nodes) (unit .last .1 .0) (loop .lits) (unit .last .1 .1 .0) (unit .result) (loop .inv .0) (unit .ensures) (r .given .0 .0) (r .given .0 .1 .0) (r .given .0 .1 .1 .0) (r .given .1) (emit-if .result) (emit-if .last .0) (emit-if .ensures) (pre .1 .0 .short), omega (arith, emit-if .kept, unit .kept, loop .inv .3), omega (arith, unit .kept, loop .inv .4))
 
-unit-returns : (t : ℕ) → unit-lts.Need-returns (
-  is-reads.Asked,
-  is-reads.Learnt,
-  refused-reads.Asked,
-  refused-reads.Learnt,
-  emit-reads.Asked,
-  emit-reads.Learnt,
-  stars-reads.Asked,
-  stars-reads.Learnt,
-  alternation-below t,
-  alternation.Post,
-  unit-at-reads.Asked,
-  unit-at-reads.Learnt,
-  literal-reads.Asked,
-  literal-reads.Learnt,
-  missing-reads.Asked,
-  missing-reads.Learnt,
-) (unit-at t) unit.Post
-unit-returns t c =
-    let if1 = c .before .before .if1 in
-    let is = c .before .before .before .is in
-    let args = c .before .before .before .before .before .before .before .args in
-    rw ((c .refused) .ensures) (fails-deep (args .text .now) (args .allowed) (args .at) (sym (is .ensures) ∙ if1 .taken) ((c .before .if2) .taken))
+module _ (t : ℕ) where
+  abbrev unit-claims : unit-lts.Claims
+  unit-claims = (is-reads.Asked, is-reads.Learnt, refused-reads.Asked, refused-reads.Learnt, emit-reads.Asked, emit-reads.Learnt, stars-reads.Asked, stars-reads.Learnt, alternation-below t, alternation.Post, unit-at-reads.Asked, unit-at-reads.Learnt, literal-reads.Asked, literal-reads.Learnt, missing-reads.Asked, missing-reads.Learnt)
 
-unit-add-is : (t : ℕ) → unit-lts.Need-add-is (
-  is-reads.Asked,
-  is-reads.Learnt,
-  refused-reads.Asked,
-  refused-reads.Learnt,
-  emit-reads.Asked,
-  emit-reads.Learnt,
-  stars-reads.Asked,
-  stars-reads.Learnt,
-  alternation-below t,
-  alternation.Post,
-  unit-at-reads.Asked,
-  unit-at-reads.Learnt,
-  literal-reads.Asked,
-  literal-reads.Learnt,
-  missing-reads.Asked,
-  missing-reads.Learnt,
-) (unit-at t) unit.Post
-unit-add-is t c =
-    let pre = c .before .before .before .before .before .before .pre in
-    omega (arith, (pre .1 .0) .inside, (pre .1 .0) .short)
+  -- of what `unit` needs and knows, at the measure t
+  abbrev Unit : (unit-lts.Claims → In 3 unit-kinds.ps → Out 3 unit-kinds.ps unit-kinds.r → Type 0) → Type 0
+  Unit of = of unit-claims (unit-at t) unit.Post
 
-unit-is-requires-2 : (t : ℕ) → unit-lts.Need-is-requires-2 (
-  is-reads.Asked,
-  is-reads.Learnt,
-  refused-reads.Asked,
-  refused-reads.Learnt,
-  emit-reads.Asked,
-  emit-reads.Learnt,
-  stars-reads.Asked,
-  stars-reads.Learnt,
-  alternation-below t,
-  alternation.Post,
-  unit-at-reads.Asked,
-  unit-at-reads.Learnt,
-  literal-reads.Asked,
-  literal-reads.Learnt,
-  missing-reads.Asked,
-  missing-reads.Learnt,
-) (unit-at t) unit.Post
-unit-is-requires-2 t c κs = search needs
+  unit-is-requires : Unit unit-lts.Need-is-requires
+  unit-is-requires c κs = search needs
 
-unit-emit-requires : (t : ℕ) → unit-lts.Need-emit-requires (
-  is-reads.Asked,
-  is-reads.Learnt,
-  refused-reads.Asked,
-  refused-reads.Learnt,
-  emit-reads.Asked,
-  emit-reads.Learnt,
-  stars-reads.Asked,
-  stars-reads.Learnt,
-  alternation-below t,
-  alternation.Post,
-  unit-at-reads.Asked,
-  unit-at-reads.Learnt,
-  literal-reads.Asked,
-  literal-reads.Learnt,
-  missing-reads.Asked,
-  missing-reads.Learnt,
-) (unit-at t) unit.Post
-unit-emit-requires t c κs = search needs
+  unit-refused-requires : Unit unit-lts.Need-refused-requires
+  unit-refused-requires c κs = search needs
 
-unit-add-stars : (t : ℕ) → unit-lts.Need-add-stars (
-  is-reads.Asked,
-  is-reads.Learnt,
-  refused-reads.Asked,
-  refused-reads.Learnt,
-  emit-reads.Asked,
-  emit-reads.Learnt,
-  stars-reads.Asked,
-  stars-reads.Learnt,
-  alternation-below t,
-  alternation.Post,
-  unit-at-reads.Asked,
-  unit-at-reads.Learnt,
-  literal-reads.Asked,
-  literal-reads.Learnt,
-  missing-reads.Asked,
-  missing-reads.Learnt,
-) (unit-at t) unit.Post
-unit-add-stars t c =
-    let pre = c .before .before .before .before .before .before .before .before .before .before .before .before .before .pre in
-    omega (arith, (pre .1 .0) .inside, (pre .1 .0) .short)
+  unit-returns : Unit unit-lts.Need-returns
+  unit-returns c =
+      let if1 = c .before .before .if1 in
+      let is = c .before .before .before .is in
+      let args = c .before .before .before .before .before .before .before .args in
+      rw ((c .refused) .ensures) (fails-deep (args .text .now) (args .allowed) (args .at) (sym (is .ensures) ∙ if1 .taken) ((c .before .if2) .taken))
 
-unit-add-stars-2 : (t : ℕ) → unit-lts.Need-add-stars-2 (
-  is-reads.Asked,
-  is-reads.Learnt,
-  refused-reads.Asked,
-  refused-reads.Learnt,
-  emit-reads.Asked,
-  emit-reads.Learnt,
-  stars-reads.Asked,
-  stars-reads.Learnt,
-  alternation-below t,
-  alternation.Post,
-  unit-at-reads.Asked,
-  unit-at-reads.Learnt,
-  literal-reads.Asked,
-  literal-reads.Learnt,
-  missing-reads.Asked,
-  missing-reads.Learnt,
-) (unit-at t) unit.Post
-unit-add-stars-2 t c =
-    let pre = c .before .before .before .before .before .before .before .before .before .before .before .before .before .pre in
-    omega (arith, (pre .1 .0) .inside, (pre .1 .0) .short, (pre .1 .0) .nodes)
+  unit-add-is : Unit unit-lts.Need-add-is
+  unit-add-is c =
+      let pre = c .before .before .before .before .before .before .pre in
+      omega (arith, (pre .1 .0) .inside, (pre .1 .0) .short)
 
-unit-stars-requires : (t : ℕ) → unit-lts.Need-stars-requires (
-  is-reads.Asked,
-  is-reads.Learnt,
-  refused-reads.Asked,
-  refused-reads.Learnt,
-  emit-reads.Asked,
-  emit-reads.Learnt,
-  stars-reads.Asked,
-  stars-reads.Learnt,
-  alternation-below t,
-  alternation.Post,
-  unit-at-reads.Asked,
-  unit-at-reads.Learnt,
-  literal-reads.Asked,
-  literal-reads.Learnt,
-  missing-reads.Asked,
-  missing-reads.Learnt,
-) (unit-at t) unit.Post
-unit-stars-requires t c κs =
-    let if3 = c .before .before .before .before .before .if3 in
-    let is2 = c .before .before .before .before .before .before .is2 in
-    let if2 = c .before .before .before .before .before .before .before .if2 in
-    let if1 = c .before .before .before .before .before .before .before .before .if1 in
-    let is = c .before .before .before .before .before .before .before .before .before .is in
-    let args = c .before .before .before .before .before .before .before .before .before .before .before .before .before .args in
-    let pre = c .before .before .before .before .before .before .before .before .before .before .before .before .before .pre in
-    void-begun (args .text .now) (args .allowed) (args .at) (args .n) (args .l) (args .nodes .now) (args .lits .now) (pre .1 .0) ((args .allowed) - 1) (omega (arith, if2 .left)) (sym (is .ensures) ∙ if1 .taken) (sym (is2 .ensures) ∙ if3 .taken)
+  unit-is-requires-2 : Unit unit-lts.Need-is-requires-2
+  unit-is-requires-2 c κs = search needs
 
-unit-same-length : (t : ℕ) → unit-lts.Need-same-length (
-  is-reads.Asked,
-  is-reads.Learnt,
-  refused-reads.Asked,
-  refused-reads.Learnt,
-  emit-reads.Asked,
-  emit-reads.Learnt,
-  stars-reads.Asked,
-  stars-reads.Learnt,
-  alternation-below t,
-  alternation.Post,
-  unit-at-reads.Asked,
-  unit-at-reads.Learnt,
-  literal-reads.Asked,
-  literal-reads.Learnt,
-  missing-reads.Asked,
-  missing-reads.Learnt,
-) (unit-at t) unit.Post
-unit-same-length t c = search needs
+  unit-emit-requires : Unit unit-lts.Need-emit-requires
+  unit-emit-requires c κs = search needs
 
-unit-returns-2 : (t : ℕ) → unit-lts.Need-returns-2 (
-  is-reads.Asked,
-  is-reads.Learnt,
-  refused-reads.Asked,
-  refused-reads.Learnt,
-  emit-reads.Asked,
-  emit-reads.Learnt,
-  stars-reads.Asked,
-  stars-reads.Learnt,
-  alternation-below t,
-  alternation.Post,
-  unit-at-reads.Asked,
-  unit-at-reads.Learnt,
-  literal-reads.Asked,
-  literal-reads.Learnt,
-  missing-reads.Asked,
-  missing-reads.Learnt,
-) (unit-at t) unit.Post
-unit-returns-2 t c =
-    let stars = c .before .before .stars in
-    let emit = c .before .before .before .before .before .before .emit in
-    let if3 = c .before .before .before .before .before .before .before .before .if3 in
-    let is2 = c .before .before .before .before .before .before .before .before .before .is2 in
-    let if2 = c .before .before .before .before .before .before .before .before .before .before .if2 in
-    let if1 = c .before .before .before .before .before .before .before .before .before .before .before .if1 in
-    let is = c .before .before .before .before .before .before .before .before .before .before .before .before .is in
-    let args = c .before .before .before .before .before .before .before .before .before .before .before .before .before .before .before .before .args in
-    let pre = c .before .before .before .before .before .before .before .before .before .before .before .before .before .before .before .before .pre in
-    unit-void (args .text .now) (args .allowed) (args .at) (args .n) (args .l) (args .nodes .now) (args .lits .now) (pre .1 .0) ((args .allowed) - 1) (omega (arith, if2 .left)) (sym (is .ensures) ∙ if1 .taken) (sym (is2 .ensures) ∙ if3 .taken) (emit .last .0) (stars .last .1 .0) (stars .result) (emit .ensures) (stars .ensures)
+  unit-add-stars : Unit unit-lts.Need-add-stars
+  unit-add-stars c =
+      let pre = c .before .before .before .before .before .before .before .before .before .before .before .before .before .pre in
+      omega (arith, (pre .1 .0) .inside, (pre .1 .0) .short)
 
-unit-add-alternation : (t : ℕ) → unit-lts.Need-add-alternation (
-  is-reads.Asked,
-  is-reads.Learnt,
-  refused-reads.Asked,
-  refused-reads.Learnt,
-  emit-reads.Asked,
-  emit-reads.Learnt,
-  stars-reads.Asked,
-  stars-reads.Learnt,
-  alternation-below t,
-  alternation.Post,
-  unit-at-reads.Asked,
-  unit-at-reads.Learnt,
-  literal-reads.Asked,
-  literal-reads.Learnt,
-  missing-reads.Asked,
-  missing-reads.Learnt,
-) (unit-at t) unit.Post
-unit-add-alternation t c =
-    let pre = c .before .before .before .before .before .before .before .before .before .before .pre in
-    omega (arith, (pre .1 .0) .inside, (pre .1 .0) .short)
+  unit-add-stars-2 : Unit unit-lts.Need-add-stars-2
+  unit-add-stars-2 c =
+      let pre = c .before .before .before .before .before .before .before .before .before .before .before .before .before .pre in
+      omega (arith, (pre .1 .0) .inside, (pre .1 .0) .short, (pre .1 .0) .nodes)
 
-unit-sub-alternation : (t : ℕ) → unit-lts.Need-sub-alternation (
-  is-reads.Asked,
-  is-reads.Learnt,
-  refused-reads.Asked,
-  refused-reads.Learnt,
-  emit-reads.Asked,
-  emit-reads.Learnt,
-  stars-reads.Asked,
-  stars-reads.Learnt,
-  alternation-below t,
-  alternation.Post,
-  unit-at-reads.Asked,
-  unit-at-reads.Learnt,
-  literal-reads.Asked,
-  literal-reads.Learnt,
-  missing-reads.Asked,
-  missing-reads.Learnt,
-) (unit-at t) unit.Post
-unit-sub-alternation t c =
-    let if2 = c .before .before .before .before .if2 in
-    omega (arith, if2 .left)
+  unit-stars-requires : Unit unit-lts.Need-stars-requires
+  unit-stars-requires c κs =
+      let if3 = c .before .before .before .before .before .if3 in
+      let is2 = c .before .before .before .before .before .before .is2 in
+      let if2 = c .before .before .before .before .before .before .before .if2 in
+      let if1 = c .before .before .before .before .before .before .before .before .if1 in
+      let is = c .before .before .before .before .before .before .before .before .before .is in
+      let args = c .before .before .before .before .before .before .before .before .before .before .before .before .before .args in
+      let pre = c .before .before .before .before .before .before .before .before .before .before .before .before .before .pre in
+      void-begun (args .text .now) (args .allowed) (args .at) (args .n) (args .l) (args .nodes .now) (args .lits .now) (pre .1 .0) ((args .allowed) - 1) (omega (arith, if2 .left)) (sym (is .ensures) ∙ if1 .taken) (sym (is2 .ensures) ∙ if3 .taken)
 
-unit-alternation-requires : (t : ℕ) → unit-lts.Need-alternation-requires (
-  is-reads.Asked,
-  is-reads.Learnt,
-  refused-reads.Asked,
-  refused-reads.Learnt,
-  emit-reads.Asked,
-  emit-reads.Learnt,
-  stars-reads.Asked,
-  stars-reads.Learnt,
-  alternation-below t,
-  alternation.Post,
-  unit-at-reads.Asked,
-  unit-at-reads.Learnt,
-  literal-reads.Asked,
-  literal-reads.Learnt,
-  missing-reads.Asked,
-  missing-reads.Learnt,
-) (unit-at t) unit.Post
-unit-alternation-requires t c κs =
-    let if2 = c .before .before .before .before .if2 in
-    let if1 = c .before .before .before .before .before .if1 in
-    let is = c .before .before .before .before .before .before .is in
-    let args = c .before .before .before .before .before .before .before .before .before .before .args in
-    let pre = c .before .before .before .before .before .before .before .before .before .before .pre in
-    let i = byte-inside (args .text .now) (args .at) leftParenthesis (sym (is .ensures) ∙ if1 .taken) in (omega (arith, pre .0, i, if2 .left), (record { inside = omega arith; short = (pre .1 .0) .short; nodes = omega (arith, (pre .1 .0) .nodes); leaves = omega (arith, (pre .1 .0) .leaves) }, omega (arith, pre .1 .1)))
+  unit-same-length : Unit unit-lts.Need-same-length
+  unit-same-length c = search needs
 
-unit-enum-known-r : (t : ℕ) → unit-lts.Need-enum-known-r (
-  is-reads.Asked,
-  is-reads.Learnt,
-  refused-reads.Asked,
-  refused-reads.Learnt,
-  emit-reads.Asked,
-  emit-reads.Learnt,
-  stars-reads.Asked,
-  stars-reads.Learnt,
-  alternation-below t,
-  alternation.Post,
-  unit-at-reads.Asked,
-  unit-at-reads.Learnt,
-  literal-reads.Asked,
-  literal-reads.Learnt,
-  missing-reads.Asked,
-  missing-reads.Learnt,
-) (unit-at t) unit.Post
-unit-enum-known-r t c = search needs
+  unit-returns-2 : Unit unit-lts.Need-returns-2
+  unit-returns-2 c =
+      let stars = c .before .before .stars in
+      let emit = c .before .before .before .before .before .before .emit in
+      let if3 = c .before .before .before .before .before .before .before .before .if3 in
+      let is2 = c .before .before .before .before .before .before .before .before .before .is2 in
+      let if2 = c .before .before .before .before .before .before .before .before .before .before .if2 in
+      let if1 = c .before .before .before .before .before .before .before .before .before .before .before .if1 in
+      let is = c .before .before .before .before .before .before .before .before .before .before .before .before .is in
+      let args = c .before .before .before .before .before .before .before .before .before .before .before .before .before .before .before .before .args in
+      let pre = c .before .before .before .before .before .before .before .before .before .before .before .before .before .before .before .before .pre in
+      unit-void (args .text .now) (args .allowed) (args .at) (args .n) (args .l) (args .nodes .now) (args .lits .now) (pre .1 .0) ((args .allowed) - 1) (omega (arith, if2 .left)) (sym (is .ensures) ∙ if1 .taken) (sym (is2 .ensures) ∙ if3 .taken) (emit .last .0) (stars .last .1 .0) (stars .result) (emit .ensures) (stars .ensures)
 
-unit-enum-told : (t : ℕ) → unit-lts.Need-enum-told (
-  is-reads.Asked,
-  is-reads.Learnt,
-  refused-reads.Asked,
-  refused-reads.Learnt,
-  emit-reads.Asked,
-  emit-reads.Learnt,
-  stars-reads.Asked,
-  stars-reads.Learnt,
-  alternation-below t,
-  alternation.Post,
-  unit-at-reads.Asked,
-  unit-at-reads.Learnt,
-  literal-reads.Asked,
-  literal-reads.Learnt,
-  missing-reads.Asked,
-  missing-reads.Learnt,
-) (unit-at t) unit.Post
-unit-enum-told t c = search needs
+  unit-add-alternation : Unit unit-lts.Need-add-alternation
+  unit-add-alternation c =
+      let pre = c .before .before .before .before .before .before .before .before .before .before .pre in
+      omega (arith, (pre .1 .0) .inside, (pre .1 .0) .short)
 
-unit-same-length-2 : (t : ℕ) → unit-lts.Need-same-length-2 (
-  is-reads.Asked,
-  is-reads.Learnt,
-  refused-reads.Asked,
-  refused-reads.Learnt,
-  emit-reads.Asked,
-  emit-reads.Learnt,
-  stars-reads.Asked,
-  stars-reads.Learnt,
-  alternation-below t,
-  alternation.Post,
-  unit-at-reads.Asked,
-  unit-at-reads.Learnt,
-  literal-reads.Asked,
-  literal-reads.Learnt,
-  missing-reads.Asked,
-  missing-reads.Learnt,
-) (unit-at t) unit.Post
-unit-same-length-2 t c = search needs
+  unit-sub-alternation : Unit unit-lts.Need-sub-alternation
+  unit-sub-alternation c =
+      let if2 = c .before .before .before .before .if2 in
+      omega (arith, if2 .left)
 
-unit-same-length-3 : (t : ℕ) → unit-lts.Need-same-length-3 (
-  is-reads.Asked,
-  is-reads.Learnt,
-  refused-reads.Asked,
-  refused-reads.Learnt,
-  emit-reads.Asked,
-  emit-reads.Learnt,
-  stars-reads.Asked,
-  stars-reads.Learnt,
-  alternation-below t,
-  alternation.Post,
-  unit-at-reads.Asked,
-  unit-at-reads.Learnt,
-  literal-reads.Asked,
-  literal-reads.Learnt,
-  missing-reads.Asked,
-  missing-reads.Learnt,
-) (unit-at t) unit.Post
-unit-same-length-3 t c = search needs
+  unit-alternation-requires : Unit unit-lts.Need-alternation-requires
+  unit-alternation-requires c κs =
+      let if2 = c .before .before .before .before .if2 in
+      let if1 = c .before .before .before .before .before .if1 in
+      let is = c .before .before .before .before .before .before .is in
+      let args = c .before .before .before .before .before .before .before .before .before .before .args in
+      let pre = c .before .before .before .before .before .before .before .before .before .before .pre in
+      let i = byte-inside (args .text .now) (args .at) leftParenthesis (sym (is .ensures) ∙ if1 .taken) in (omega (arith, pre .0, i, if2 .left), (record { inside = omega arith; short = (pre .1 .0) .short; nodes = omega (arith, (pre .1 .0) .nodes); leaves = omega (arith, (pre .1 .0) .leaves) }, omega (arith, pre .1 .1)))
 
-unit-returns-3 : (t : ℕ) → unit-lts.Need-returns-3 (
-  is-reads.Asked,
-  is-reads.Learnt,
-  refused-reads.Asked,
-  refused-reads.Learnt,
-  emit-reads.Asked,
-  emit-reads.Learnt,
-  stars-reads.Asked,
-  stars-reads.Learnt,
-  alternation-below t,
-  alternation.Post,
-  unit-at-reads.Asked,
-  unit-at-reads.Learnt,
-  literal-reads.Asked,
-  literal-reads.Learnt,
-  missing-reads.Asked,
-  missing-reads.Learnt,
-) (unit-at t) unit.Post
-unit-returns-3 t c =
-    let alternation = c .before .before .before .before .before .before .alternation in
-    let if3 = c .before .before .before .before .before .before .before .before .before .if3 in
-    let is2 = c .before .before .before .before .before .before .before .before .before .before .is2 in
-    let if2 = c .before .before .before .before .before .before .before .before .before .before .before .if2 in
-    let if1 = c .before .before .before .before .before .before .before .before .before .before .before .before .if1 in
-    let is = c .before .before .before .before .before .before .before .before .before .before .before .before .before .is in
-    let args = c .before .before .before .before .before .before .before .before .before .before .before .before .before .before .before .before .before .args in
-    let pre = c .before .before .before .before .before .before .before .before .before .before .before .before .before .before .before .before .before .pre in
-    unit-up (args .text .now) (args .allowed) (args .at) (args .n) (args .l) (args .nodes .now) (args .lits .now) (pre .1 .0) ((args .allowed) - 1) (omega (arith, if2 .left)) (sym (is .ensures) ∙ if1 .taken) (sym (is2 .ensures) ∙ if3 .left) (alternation .last .1 .0) (alternation .last .1 .1 .0) (alternation .result) (alternation .ensures) ((c .enum-told) .given .0 .0) ((c .enum-told) .given .1)
+  unit-enum-known-r : Unit unit-lts.Need-enum-known-r
+  unit-enum-known-r c = search needs
 
-unit-is-requires-3 : (t : ℕ) → unit-lts.Need-is-requires-3 (
-  is-reads.Asked,
-  is-reads.Learnt,
-  refused-reads.Asked,
-  refused-reads.Learnt,
-  emit-reads.Asked,
-  emit-reads.Learnt,
-  stars-reads.Asked,
-  stars-reads.Learnt,
-  alternation-below t,
-  alternation.Post,
-  unit-at-reads.Asked,
-  unit-at-reads.Learnt,
-  literal-reads.Asked,
-  literal-reads.Learnt,
-  missing-reads.Asked,
-  missing-reads.Learnt,
-) (unit-at t) unit.Post
-unit-is-requires-3 t c κs = search needs
+  unit-enum-told : Unit unit-lts.Need-enum-told
+  unit-enum-told c = search needs
 
-unit-add-stars-3 : (t : ℕ) → unit-lts.Need-add-stars-3 (
-  is-reads.Asked,
-  is-reads.Learnt,
-  refused-reads.Asked,
-  refused-reads.Learnt,
-  emit-reads.Asked,
-  emit-reads.Learnt,
-  stars-reads.Asked,
-  stars-reads.Learnt,
-  alternation-below t,
-  alternation.Post,
-  unit-at-reads.Asked,
-  unit-at-reads.Learnt,
-  literal-reads.Asked,
-  literal-reads.Learnt,
-  missing-reads.Asked,
-  missing-reads.Learnt,
-) (unit-at t) unit.Post
-unit-add-stars-3 t c =
-    let r = c .before .before .before .before .r in
-    let alternation = c .before .before .before .before .before .before .before .before .before .before .alternation in
-    let if3 = c .before .before .before .before .before .before .before .before .before .before .before .before .before .if3 in
-    let is2 = c .before .before .before .before .before .before .before .before .before .before .before .before .before .before .is2 in
-    let if2 = c .before .before .before .before .before .before .before .before .before .before .before .before .before .before .before .if2 in
-    let if1 = c .before .before .before .before .before .before .before .before .before .before .before .before .before .before .before .before .if1 in
-    let is = c .before .before .before .before .before .before .before .before .before .before .before .before .before .before .before .before .before .is in
-    let args = c .before .before .before .before .before .before .before .before .before .before .before .before .before .before .before .before .before .before .before .before .before .args in
-    let pre = c .before .before .before .before .before .before .before .before .before .before .before .before .before .before .before .before .before .before .before .before .before .pre in
-    let v = inner-onward (args .text .now) (args .allowed) (args .at) (args .n) (args .l) (args .nodes .now) (args .lits .now) (pre .1 .0) ((args .allowed) - 1) (omega (arith, if2 .left)) (sym (is .ensures) ∙ if1 .taken) (sym (is2 .ensures) ∙ if3 .left) (alternation .last .1 .0) (alternation .last .1 .1 .0) (alternation .result) (alternation .ensures) (r .given .0 .0) (r .given .0 .1 .0) (r .given .0 .1 .1 .0) (r .given .1) in omega (arith, v .inside, (pre .1 .0) .short)
+  unit-same-length-2 : Unit unit-lts.Need-same-length-2
+  unit-same-length-2 c = search needs
 
-unit-stars-requires-2 : (t : ℕ) → unit-lts.Need-stars-requires-2 (
-  is-reads.Asked,
-  is-reads.Learnt,
-  refused-reads.Asked,
-  refused-reads.Learnt,
-  emit-reads.Asked,
-  emit-reads.Learnt,
-  stars-reads.Asked,
-  stars-reads.Learnt,
-  alternation-below t,
-  alternation.Post,
-  unit-at-reads.Asked,
-  unit-at-reads.Learnt,
-  literal-reads.Asked,
-  literal-reads.Learnt,
-  missing-reads.Asked,
-  missing-reads.Learnt,
-) (unit-at t) unit.Post
-unit-stars-requires-2 t c κs =
-    let is3 = c .before .before .is3 in
-    let r = c .before .before .before .before .r in
-    let alternation = c .before .before .before .before .before .before .before .before .before .before .alternation in
-    let if3 = c .before .before .before .before .before .before .before .before .before .before .before .before .before .if3 in
-    let is2 = c .before .before .before .before .before .before .before .before .before .before .before .before .before .before .is2 in
-    let if2 = c .before .before .before .before .before .before .before .before .before .before .before .before .before .before .before .if2 in
-    let if1 = c .before .before .before .before .before .before .before .before .before .before .before .before .before .before .before .before .if1 in
-    let is = c .before .before .before .before .before .before .before .before .before .before .before .before .before .before .before .before .before .is in
-    let args = c .before .before .before .before .before .before .before .before .before .before .before .before .before .before .before .before .before .before .before .before .before .args in
-    let pre = c .before .before .before .before .before .before .before .before .before .before .before .before .before .before .before .before .before .before .before .before .before .pre in
-    group-begun (args .text .now) (args .allowed) (args .at) (args .n) (args .l) (args .nodes .now) (args .lits .now) (pre .1 .0) ((args .allowed) - 1) (omega (arith, if2 .left)) (sym (is .ensures) ∙ if1 .taken) (sym (is2 .ensures) ∙ if3 .left) (alternation .last .1 .0) (alternation .last .1 .1 .0) (alternation .result) (alternation .ensures) (r .given .0 .0) (r .given .0 .1 .0) (r .given .0 .1 .1 .0) (r .given .1) (sym (is3 .ensures) ∙ (c .before .if4) .taken)
+  unit-same-length-3 : Unit unit-lts.Need-same-length-3
+  unit-same-length-3 c = search needs
 
-unit-same-length-4 : (t : ℕ) → unit-lts.Need-same-length-4 (
-  is-reads.Asked,
-  is-reads.Learnt,
-  refused-reads.Asked,
-  refused-reads.Learnt,
-  emit-reads.Asked,
-  emit-reads.Learnt,
-  stars-reads.Asked,
-  stars-reads.Learnt,
-  alternation-below t,
-  alternation.Post,
-  unit-at-reads.Asked,
-  unit-at-reads.Learnt,
-  literal-reads.Asked,
-  literal-reads.Learnt,
-  missing-reads.Asked,
-  missing-reads.Learnt,
-) (unit-at t) unit.Post
-unit-same-length-4 t c = search needs
+  unit-returns-3 : Unit unit-lts.Need-returns-3
+  unit-returns-3 c =
+      let alternation = c .before .before .before .before .before .before .alternation in
+      let if3 = c .before .before .before .before .before .before .before .before .before .if3 in
+      let is2 = c .before .before .before .before .before .before .before .before .before .before .is2 in
+      let if2 = c .before .before .before .before .before .before .before .before .before .before .before .if2 in
+      let if1 = c .before .before .before .before .before .before .before .before .before .before .before .before .if1 in
+      let is = c .before .before .before .before .before .before .before .before .before .before .before .before .before .is in
+      let args = c .before .before .before .before .before .before .before .before .before .before .before .before .before .before .before .before .before .args in
+      let pre = c .before .before .before .before .before .before .before .before .before .before .before .before .before .before .before .before .before .pre in
+      unit-up (args .text .now) (args .allowed) (args .at) (args .n) (args .l) (args .nodes .now) (args .lits .now) (pre .1 .0) ((args .allowed) - 1) (omega (arith, if2 .left)) (sym (is .ensures) ∙ if1 .taken) (sym (is2 .ensures) ∙ if3 .left) (alternation .last .1 .0) (alternation .last .1 .1 .0) (alternation .result) (alternation .ensures) ((c .enum-told) .given .0 .0) ((c .enum-told) .given .1)
 
-unit-same-length-5 : (t : ℕ) → unit-lts.Need-same-length-5 (
-  is-reads.Asked,
-  is-reads.Learnt,
-  refused-reads.Asked,
-  refused-reads.Learnt,
-  emit-reads.Asked,
-  emit-reads.Learnt,
-  stars-reads.Asked,
-  stars-reads.Learnt,
-  alternation-below t,
-  alternation.Post,
-  unit-at-reads.Asked,
-  unit-at-reads.Learnt,
-  literal-reads.Asked,
-  literal-reads.Learnt,
-  missing-reads.Asked,
-  missing-reads.Learnt,
-) (unit-at t) unit.Post
-unit-same-length-5 t c = search needs
+  unit-is-requires-3 : Unit unit-lts.Need-is-requires-3
+  unit-is-requires-3 c κs = search needs
 
-unit-returns-4 : (t : ℕ) → unit-lts.Need-returns-4 (
-  is-reads.Asked,
-  is-reads.Learnt,
-  refused-reads.Asked,
-  refused-reads.Learnt,
-  emit-reads.Asked,
-  emit-reads.Learnt,
-  stars-reads.Asked,
-  stars-reads.Learnt,
-  alternation-below t,
-  alternation.Post,
-  unit-at-reads.Asked,
-  unit-at-reads.Learnt,
-  literal-reads.Asked,
-  literal-reads.Learnt,
-  missing-reads.Asked,
-  missing-reads.Learnt,
-) (unit-at t) unit.Post
-unit-returns-4 t c =
-    let stars2 = c .before .before .stars2 in
-    let if4 = c .before .before .before .before .if4 in
-    let is3 = c .before .before .before .before .before .is3 in
-    let r = c .before .before .before .before .before .before .before .r in
-    let alternation = c .before .before .before .before .before .before .before .before .before .before .before .before .before .alternation in
-    let if3 = c .before .before .before .before .before .before .before .before .before .before .before .before .before .before .before .before .if3 in
-    let is2 = c .before .before .before .before .before .before .before .before .before .before .before .before .before .before .before .before .before .is2 in
-    let if2 = c .before .before .before .before .before .before .before .before .before .before .before .before .before .before .before .before .before .before .if2 in
-    let if1 = c .before .before .before .before .before .before .before .before .before .before .before .before .before .before .before .before .before .before .before .if1 in
-    let is = c .before .before .before .before .before .before .before .before .before .before .before .before .before .before .before .before .before .before .before .before .is in
-    let args = c .before .before .before .before .before .before .before .before .before .before .before .before .before .before .before .before .before .before .before .before .before .before .before .before .args in
-    let pre = c .before .before .before .before .before .before .before .before .before .before .before .before .before .before .before .before .before .before .before .before .before .before .before .before .pre in
-    unit-group (args .text .now) (args .allowed) (args .at) (args .n) (args .l) (args .nodes .now) (args .lits .now) (pre .1 .0) ((args .allowed) - 1) (omega (arith, if2 .left)) (sym (is .ensures) ∙ if1 .taken) (sym (is2 .ensures) ∙ if3 .left) (alternation .last .1 .0) (alternation .last .1 .1 .0) (alternation .result) (alternation .ensures) (r .given .0 .0) (r .given .0 .1 .0) (r .given .0 .1 .1 .0) (r .given .1) (sym (is3 .ensures) ∙ if4 .taken) (stars2 .last .1 .0) (stars2 .result) (stars2 .ensures)
+  unit-add-stars-3 : Unit unit-lts.Need-add-stars-3
+  unit-add-stars-3 c =
+      let r = c .before .before .before .before .r in
+      let alternation = c .before .before .before .before .before .before .before .before .before .before .alternation in
+      let if3 = c .before .before .before .before .before .before .before .before .before .before .before .before .before .if3 in
+      let is2 = c .before .before .before .before .before .before .before .before .before .before .before .before .before .before .is2 in
+      let if2 = c .before .before .before .before .before .before .before .before .before .before .before .before .before .before .before .if2 in
+      let if1 = c .before .before .before .before .before .before .before .before .before .before .before .before .before .before .before .before .if1 in
+      let is = c .before .before .before .before .before .before .before .before .before .before .before .before .before .before .before .before .before .is in
+      let args = c .before .before .before .before .before .before .before .before .before .before .before .before .before .before .before .before .before .before .before .before .before .args in
+      let pre = c .before .before .before .before .before .before .before .before .before .before .before .before .before .before .before .before .before .before .before .before .before .pre in
+      let v = inner-onward (args .text .now) (args .allowed) (args .at) (args .n) (args .l) (args .nodes .now) (args .lits .now) (pre .1 .0) ((args .allowed) - 1) (omega (arith, if2 .left)) (sym (is .ensures) ∙ if1 .taken) (sym (is2 .ensures) ∙ if3 .left) (alternation .last .1 .0) (alternation .last .1 .1 .0) (alternation .result) (alternation .ensures) (r .given .0 .0) (r .given .0 .1 .0) (r .given .0 .1 .1 .0) (r .given .1) in omega (arith, v .inside, (pre .1 .0) .short)
 
-unit-refused-requires-2 : (t : ℕ) → unit-lts.Need-refused-requires-2 (
-  is-reads.Asked,
-  is-reads.Learnt,
-  refused-reads.Asked,
-  refused-reads.Learnt,
-  emit-reads.Asked,
-  emit-reads.Learnt,
-  stars-reads.Asked,
-  stars-reads.Learnt,
-  alternation-below t,
-  alternation.Post,
-  unit-at-reads.Asked,
-  unit-at-reads.Learnt,
-  literal-reads.Asked,
-  literal-reads.Learnt,
-  missing-reads.Asked,
-  missing-reads.Learnt,
-) (unit-at t) unit.Post
-unit-refused-requires-2 t c κs = search needs
+  unit-stars-requires-2 : Unit unit-lts.Need-stars-requires-2
+  unit-stars-requires-2 c κs =
+      let is3 = c .before .before .is3 in
+      let r = c .before .before .before .before .r in
+      let alternation = c .before .before .before .before .before .before .before .before .before .before .alternation in
+      let if3 = c .before .before .before .before .before .before .before .before .before .before .before .before .before .if3 in
+      let is2 = c .before .before .before .before .before .before .before .before .before .before .before .before .before .before .is2 in
+      let if2 = c .before .before .before .before .before .before .before .before .before .before .before .before .before .before .before .if2 in
+      let if1 = c .before .before .before .before .before .before .before .before .before .before .before .before .before .before .before .before .if1 in
+      let is = c .before .before .before .before .before .before .before .before .before .before .before .before .before .before .before .before .before .is in
+      let args = c .before .before .before .before .before .before .before .before .before .before .before .before .before .before .before .before .before .before .before .before .before .args in
+      let pre = c .before .before .before .before .before .before .before .before .before .before .before .before .before .before .before .before .before .before .before .before .before .pre in
+      group-begun (args .text .now) (args .allowed) (args .at) (args .n) (args .l) (args .nodes .now) (args .lits .now) (pre .1 .0) ((args .allowed) - 1) (omega (arith, if2 .left)) (sym (is .ensures) ∙ if1 .taken) (sym (is2 .ensures) ∙ if3 .left) (alternation .last .1 .0) (alternation .last .1 .1 .0) (alternation .result) (alternation .ensures) (r .given .0 .0) (r .given .0 .1 .0) (r .given .0 .1 .1 .0) (r .given .1) (sym (is3 .ensures) ∙ (c .before .if4) .taken)
 
-unit-same-length-6 : (t : ℕ) → unit-lts.Need-same-length-6 (
-  is-reads.Asked,
-  is-reads.Learnt,
-  refused-reads.Asked,
-  refused-reads.Learnt,
-  emit-reads.Asked,
-  emit-reads.Learnt,
-  stars-reads.Asked,
-  stars-reads.Learnt,
-  alternation-below t,
-  alternation.Post,
-  unit-at-reads.Asked,
-  unit-at-reads.Learnt,
-  literal-reads.Asked,
-  literal-reads.Learnt,
-  missing-reads.Asked,
-  missing-reads.Learnt,
-) (unit-at t) unit.Post
-unit-same-length-6 t c = search needs
+  unit-same-length-4 : Unit unit-lts.Need-same-length-4
+  unit-same-length-4 c = search needs
 
-unit-same-length-7 : (t : ℕ) → unit-lts.Need-same-length-7 (
-  is-reads.Asked,
-  is-reads.Learnt,
-  refused-reads.Asked,
-  refused-reads.Learnt,
-  emit-reads.Asked,
-  emit-reads.Learnt,
-  stars-reads.Asked,
-  stars-reads.Learnt,
-  alternation-below t,
-  alternation.Post,
-  unit-at-reads.Asked,
-  unit-at-reads.Learnt,
-  literal-reads.Asked,
-  literal-reads.Learnt,
-  missing-reads.Asked,
-  missing-reads.Learnt,
-) (unit-at t) unit.Post
-unit-same-length-7 t c = search needs
+  unit-same-length-5 : Unit unit-lts.Need-same-length-5
+  unit-same-length-5 c = search needs
 
-unit-returns-5 : (t : ℕ) → unit-lts.Need-returns-5 (
-  is-reads.Asked,
-  is-reads.Learnt,
-  refused-reads.Asked,
-  refused-reads.Learnt,
-  emit-reads.Asked,
-  emit-reads.Learnt,
-  stars-reads.Asked,
-  stars-reads.Learnt,
-  alternation-below t,
-  alternation.Post,
-  unit-at-reads.Asked,
-  unit-at-reads.Learnt,
-  literal-reads.Asked,
-  literal-reads.Learnt,
-  missing-reads.Asked,
-  missing-reads.Learnt,
-) (unit-at t) unit.Post
-unit-returns-5 t c =
-    let is3 = c .before .before .is3 in
-    let r = c .before .before .before .before .r in
-    let alternation = c .before .before .before .before .before .before .before .before .before .before .alternation in
-    let if3 = c .before .before .before .before .before .before .before .before .before .before .before .before .before .if3 in
-    let is2 = c .before .before .before .before .before .before .before .before .before .before .before .before .before .before .is2 in
-    let if2 = c .before .before .before .before .before .before .before .before .before .before .before .before .before .before .before .if2 in
-    let if1 = c .before .before .before .before .before .before .before .before .before .before .before .before .before .before .before .before .if1 in
-    let is = c .before .before .before .before .before .before .before .before .before .before .before .before .before .before .before .before .before .is in
-    let args = c .before .before .before .before .before .before .before .before .before .before .before .before .before .before .before .before .before .before .before .before .before .args in
-    let pre = c .before .before .before .before .before .before .before .before .before .before .before .before .before .before .before .before .before .before .before .before .before .pre in
-    rw ((c .refused2) .ensures) (unit-unclosed (args .text .now) (args .allowed) (args .at) (args .n) (args .l) (args .nodes .now) (args .lits .now) (pre .1 .0) ((args .allowed) - 1) (omega (arith, if2 .left)) (sym (is .ensures) ∙ if1 .taken) (sym (is2 .ensures) ∙ if3 .left) (alternation .last .1 .0) (alternation .last .1 .1 .0) (alternation .result) (alternation .ensures) (r .given .0 .0) (r .given .0 .1 .0) (r .given .0 .1 .1 .0) (r .given .1) (sym (is3 .ensures) ∙ (c .before .if4) .left))
+  unit-returns-4 : Unit unit-lts.Need-returns-4
+  unit-returns-4 c =
+      let stars2 = c .before .before .stars2 in
+      let if4 = c .before .before .before .before .if4 in
+      let is3 = c .before .before .before .before .before .is3 in
+      let r = c .before .before .before .before .before .before .before .r in
+      let alternation = c .before .before .before .before .before .before .before .before .before .before .before .before .before .alternation in
+      let if3 = c .before .before .before .before .before .before .before .before .before .before .before .before .before .before .before .before .if3 in
+      let is2 = c .before .before .before .before .before .before .before .before .before .before .before .before .before .before .before .before .before .is2 in
+      let if2 = c .before .before .before .before .before .before .before .before .before .before .before .before .before .before .before .before .before .before .if2 in
+      let if1 = c .before .before .before .before .before .before .before .before .before .before .before .before .before .before .before .before .before .before .before .if1 in
+      let is = c .before .before .before .before .before .before .before .before .before .before .before .before .before .before .before .before .before .before .before .before .is in
+      let args = c .before .before .before .before .before .before .before .before .before .before .before .before .before .before .before .before .before .before .before .before .before .before .before .before .args in
+      let pre = c .before .before .before .before .before .before .before .before .before .before .before .before .before .before .before .before .before .before .before .before .before .before .before .before .pre in
+      unit-group (args .text .now) (args .allowed) (args .at) (args .n) (args .l) (args .nodes .now) (args .lits .now) (pre .1 .0) ((args .allowed) - 1) (omega (arith, if2 .left)) (sym (is .ensures) ∙ if1 .taken) (sym (is2 .ensures) ∙ if3 .left) (alternation .last .1 .0) (alternation .last .1 .1 .0) (alternation .result) (alternation .ensures) (r .given .0 .0) (r .given .0 .1 .0) (r .given .0 .1 .1 .0) (r .given .1) (sym (is3 .ensures) ∙ if4 .taken) (stars2 .last .1 .0) (stars2 .result) (stars2 .ensures)
 
-unit-unit-at-requires : (t : ℕ) → unit-lts.Need-unit-at-requires (
-  is-reads.Asked,
-  is-reads.Learnt,
-  refused-reads.Asked,
-  refused-reads.Learnt,
-  emit-reads.Asked,
-  emit-reads.Learnt,
-  stars-reads.Asked,
-  stars-reads.Learnt,
-  alternation-below t,
-  alternation.Post,
-  unit-at-reads.Asked,
-  unit-at-reads.Learnt,
-  literal-reads.Asked,
-  literal-reads.Learnt,
-  missing-reads.Asked,
-  missing-reads.Learnt,
-) (unit-at t) unit.Post
-unit-unit-at-requires t c κs = search needs
+  unit-refused-requires-2 : Unit unit-lts.Need-refused-requires-2
+  unit-refused-requires-2 c κs = search needs
 
-unit-literal-requires : (t : ℕ) → unit-lts.Need-literal-requires (
-  is-reads.Asked,
-  is-reads.Learnt,
-  refused-reads.Asked,
-  refused-reads.Learnt,
-  emit-reads.Asked,
-  emit-reads.Learnt,
-  stars-reads.Asked,
-  stars-reads.Learnt,
-  alternation-below t,
-  alternation.Post,
-  unit-at-reads.Asked,
-  unit-at-reads.Learnt,
-  literal-reads.Asked,
-  literal-reads.Learnt,
-  missing-reads.Asked,
-  missing-reads.Learnt,
-) (unit-at t) unit.Post
-unit-literal-requires t c κs =
-    let if5 = c .before .before .if5 in
-    let unit-at = c .before .before .before .unit-at in
-    let if1 = c .before .before .before .before .if1 in
-    let is = c .before .before .before .before .before .is in
-    let pre = c .before .before .before .before .before .before .before .before .before .pre in
-    ((pre .1 .0), sym (unit-at .ensures) ∙ if5 .taken, (sym (is .ensures) ∙ if1 .left))
+  unit-same-length-6 : Unit unit-lts.Need-same-length-6
+  unit-same-length-6 c = search needs
 
-unit-same-length-8 : (t : ℕ) → unit-lts.Need-same-length-8 (
-  is-reads.Asked,
-  is-reads.Learnt,
-  refused-reads.Asked,
-  refused-reads.Learnt,
-  emit-reads.Asked,
-  emit-reads.Learnt,
-  stars-reads.Asked,
-  stars-reads.Learnt,
-  alternation-below t,
-  alternation.Post,
-  unit-at-reads.Asked,
-  unit-at-reads.Learnt,
-  literal-reads.Asked,
-  literal-reads.Learnt,
-  missing-reads.Asked,
-  missing-reads.Learnt,
-) (unit-at t) unit.Post
-unit-same-length-8 t c = search needs
+  unit-same-length-7 : Unit unit-lts.Need-same-length-7
+  unit-same-length-7 c = search needs
 
-unit-same-length-9 : (t : ℕ) → unit-lts.Need-same-length-9 (
-  is-reads.Asked,
-  is-reads.Learnt,
-  refused-reads.Asked,
-  refused-reads.Learnt,
-  emit-reads.Asked,
-  emit-reads.Learnt,
-  stars-reads.Asked,
-  stars-reads.Learnt,
-  alternation-below t,
-  alternation.Post,
-  unit-at-reads.Asked,
-  unit-at-reads.Learnt,
-  literal-reads.Asked,
-  literal-reads.Learnt,
-  missing-reads.Asked,
-  missing-reads.Learnt,
-) (unit-at t) unit.Post
-unit-same-length-9 t c = search needs
+  unit-returns-5 : Unit unit-lts.Need-returns-5
+  unit-returns-5 c =
+      let is3 = c .before .before .is3 in
+      let r = c .before .before .before .before .r in
+      let alternation = c .before .before .before .before .before .before .before .before .before .before .alternation in
+      let if3 = c .before .before .before .before .before .before .before .before .before .before .before .before .before .if3 in
+      let is2 = c .before .before .before .before .before .before .before .before .before .before .before .before .before .before .is2 in
+      let if2 = c .before .before .before .before .before .before .before .before .before .before .before .before .before .before .before .if2 in
+      let if1 = c .before .before .before .before .before .before .before .before .before .before .before .before .before .before .before .before .if1 in
+      let is = c .before .before .before .before .before .before .before .before .before .before .before .before .before .before .before .before .before .is in
+      let args = c .before .before .before .before .before .before .before .before .before .before .before .before .before .before .before .before .before .before .before .before .before .args in
+      let pre = c .before .before .before .before .before .before .before .before .before .before .before .before .before .before .before .before .before .before .before .before .before .pre in
+      rw ((c .refused2) .ensures) (unit-unclosed (args .text .now) (args .allowed) (args .at) (args .n) (args .l) (args .nodes .now) (args .lits .now) (pre .1 .0) ((args .allowed) - 1) (omega (arith, if2 .left)) (sym (is .ensures) ∙ if1 .taken) (sym (is2 .ensures) ∙ if3 .left) (alternation .last .1 .0) (alternation .last .1 .1 .0) (alternation .result) (alternation .ensures) (r .given .0 .0) (r .given .0 .1 .0) (r .given .0 .1 .1 .0) (r .given .1) (sym (is3 .ensures) ∙ (c .before .if4) .left))
 
-unit-returns-6 : (t : ℕ) → unit-lts.Need-returns-6 (
-  is-reads.Asked,
-  is-reads.Learnt,
-  refused-reads.Asked,
-  refused-reads.Learnt,
-  emit-reads.Asked,
-  emit-reads.Learnt,
-  stars-reads.Asked,
-  stars-reads.Learnt,
-  alternation-below t,
-  alternation.Post,
-  unit-at-reads.Asked,
-  unit-at-reads.Learnt,
-  literal-reads.Asked,
-  literal-reads.Learnt,
-  missing-reads.Asked,
-  missing-reads.Learnt,
-) (unit-at t) unit.Post
-unit-returns-6 t c =
-    let literal = c .before .before .before .before .literal in
-    let args = c .before .before .before .before .before .before .before .before .before .before .before .before .before .before .args in
-    literal .ensures (args .allowed)
+  unit-unit-at-requires : Unit unit-lts.Need-unit-at-requires
+  unit-unit-at-requires c κs = search needs
 
-unit-missing-requires : (t : ℕ) → unit-lts.Need-missing-requires (
-  is-reads.Asked,
-  is-reads.Learnt,
-  refused-reads.Asked,
-  refused-reads.Learnt,
-  emit-reads.Asked,
-  emit-reads.Learnt,
-  stars-reads.Asked,
-  stars-reads.Learnt,
-  alternation-below t,
-  alternation.Post,
-  unit-at-reads.Asked,
-  unit-at-reads.Learnt,
-  literal-reads.Asked,
-  literal-reads.Learnt,
-  missing-reads.Asked,
-  missing-reads.Learnt,
-) (unit-at t) unit.Post
-unit-missing-requires t c κs =
-    let pre = c .before .before .before .before .before .before .before .pre in
-    ((pre .1 .0) .inside, sym ((c .before .unit-at) .ensures) ∙ (c .if5) .left)
+  unit-literal-requires : Unit unit-lts.Need-literal-requires
+  unit-literal-requires c κs =
+      let if5 = c .before .before .if5 in
+      let unit-at = c .before .before .before .unit-at in
+      let if1 = c .before .before .before .before .if1 in
+      let is = c .before .before .before .before .before .is in
+      let pre = c .before .before .before .before .before .before .before .before .before .pre in
+      ((pre .1 .0), sym (unit-at .ensures) ∙ if5 .taken, (sym (is .ensures) ∙ if1 .left))
 
-unit-returns-7 : (t : ℕ) → unit-lts.Need-returns-7 (
-  is-reads.Asked,
-  is-reads.Learnt,
-  refused-reads.Asked,
-  refused-reads.Learnt,
-  emit-reads.Asked,
-  emit-reads.Learnt,
-  stars-reads.Asked,
-  stars-reads.Learnt,
-  alternation-below t,
-  alternation.Post,
-  unit-at-reads.Asked,
-  unit-at-reads.Learnt,
-  literal-reads.Asked,
-  literal-reads.Learnt,
-  missing-reads.Asked,
-  missing-reads.Learnt,
-) (unit-at t) unit.Post
-unit-returns-7 t c =
-    let args = c .before .before .before .before .before .before .before .before .args in
-    missing-read (args .text .now) (args .allowed) (args .at) (out (args .n) (args .nodes .now) (args .l) (args .lits .now)) (args .nodes .now) (args .lits .now) ((c .missing) .result) ((c .missing) .ensures)
+  unit-same-length-8 : Unit unit-lts.Need-same-length-8
+  unit-same-length-8 c = search needs
+
+  unit-same-length-9 : Unit unit-lts.Need-same-length-9
+  unit-same-length-9 c = search needs
+
+  unit-returns-6 : Unit unit-lts.Need-returns-6
+  unit-returns-6 c =
+      let literal = c .before .before .before .before .literal in
+      let args = c .before .before .before .before .before .before .before .before .before .before .before .before .before .before .args in
+      literal .ensures (args .allowed)
+
+  unit-missing-requires : Unit unit-lts.Need-missing-requires
+  unit-missing-requires c κs =
+      let pre = c .before .before .before .before .before .before .before .pre in
+      ((pre .1 .0) .inside, sym ((c .before .unit-at) .ensures) ∙ (c .if5) .left)
+
+  unit-returns-7 : Unit unit-lts.Need-returns-7
+  unit-returns-7 c =
+      let args = c .before .before .before .before .before .before .before .before .args in
+      missing-read (args .text .now) (args .allowed) (args .at) (out (args .n) (args .nodes .now) (args .l) (args .lits .now)) (args .nodes .now) (args .lits .now) ((c .missing) .result) ((c .missing) .ensures)
 
 pub +alternation+sequence+unit-spec : {M : Type 1} → statement M
-+alternation+sequence+unit-spec = close μ-alternation μ-sequence μ-unit (λ t. alternation-lts.spec (
-  sequence-below t,
-  sequence.Post,
-  emit-if-reads.Asked,
-  emit-if-reads.Learnt,
-  is-reads.Asked,
-  is-reads.Learnt,
-)
++alternation+sequence+unit-spec =
+    close
+    μ-alternation
+    μ-sequence
+    μ-unit
+    (λ t. alternation-lts.spec
+    (alternation-claims t)
     (alternation-at t)
     alternation.Post
     alternation-Inv-loop
@@ -1298,14 +506,8 @@ pub +alternation+sequence+unit-spec : {M : Type 1} → statement M
     (alternation-add-next t)
     (alternation-loop-less t)
     (alternation-loop-again t))
-    (λ t. sequence-lts.spec (
-      unit-below t,
-      unit.Post,
-      emit-if-reads.Asked,
-      emit-if-reads.Learnt,
-      unit-at-reads.Asked,
-      unit-at-reads.Learnt,
-    )
+    (λ t. sequence-lts.spec
+    (sequence-claims t)
     (sequence-at t)
     sequence.Post
     sequence-Inv-loop
@@ -1324,24 +526,8 @@ pub +alternation+sequence+unit-spec : {M : Type 1} → statement M
     (sequence-returns-2 t)
     (sequence-loop-less t)
     (sequence-loop-again t))
-    λ t. unit-lts.spec (
-      is-reads.Asked,
-      is-reads.Learnt,
-      refused-reads.Asked,
-      refused-reads.Learnt,
-      emit-reads.Asked,
-      emit-reads.Learnt,
-      stars-reads.Asked,
-      stars-reads.Learnt,
-      alternation-below t,
-      alternation.Post,
-      unit-at-reads.Asked,
-      unit-at-reads.Learnt,
-      literal-reads.Asked,
-      literal-reads.Learnt,
-      missing-reads.Asked,
-      missing-reads.Learnt,
-    )
+    (λ t. unit-lts.spec
+    (unit-claims t)
     (unit-at t)
     unit.Post
     (unit-is-requires t)
@@ -1379,4 +565,4 @@ pub +alternation+sequence+unit-spec : {M : Type 1} → statement M
     (unit-same-length-9 t)
     (unit-returns-6 t)
     (unit-missing-requires t)
-    (unit-returns-7 t)
+    (unit-returns-7 t))
