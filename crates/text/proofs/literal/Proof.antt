@@ -1,4 +1,4 @@
-use Prim.Native.Nat.{_+_}
+use Prim.Native.Nat.{_+_, _<_}
 use borrow.Author.Needs.{needs}
 use lib.ListN.{length, drop}
 use mathlib.Core.Bool.{true}
@@ -13,30 +13,41 @@ use Rattle.text.specs.Reads.{out, Onward}
 use Rattle.text.proofs.literal.Statement.{statement}
 use Rattle.text.proofs.literal.Tie as tie
 
--- a plain byte stands here
-plain : (c : tie.Then1) → plainAt (drop (c .before .before .before .before .before .args .at) (c .before .before .before .before .before .args .text .now)) ≡ true
+-- back to the start, from a plain byte and from a literal that was read
+abbrev start : tie.Then1 → tie.Start
+start c = c .before .before .before .before .before
+
+abbrev begin : tie.After-q2 → tie.Start
+begin c = c .before .before .before .before .before .before .before .before
+
+plain : (c : tie.Then1) → let args = start c .args in plainAt (drop (args .at) (args .text .now)) ≡ true
 plain c = sym (c .before .plain-at .ensures) ∙ c .if1 .taken
 
-plain-far : (c : tie.Then1) → let args = c .before .before .before .before .before .args in Onward (length (args .text .now)) (args .at) (args .at + 1) (args .n + 1) (args .l + 1) 2
-plain-far c = plain-onward (c .before .before .before .before .before .pre .0) (plain-inside (c .before .before .before .before .before .args .text .now) (c .before .before .before .before .before .args .at) (plain c))
+inside : (c : tie.Then1) → let args = start c .args in args .at < length (args .text .now)
+inside c = plain-inside (start c .args .text .now) (start c .args .at) (plain c)
 
--- a literal was read, with its repeat
+plain-far : (c : tie.Then1) → let args = start c .args in Onward (length (args .text .now)) (args .at) (args .at + 1) (args .n + 1) (args .l + 1) 2
+plain-far c = plain-onward (start c .pre .0) (inside c)
+
 taken :
     (c : tie.After-q2) →
-    let args = c .before .before .before .before .before .before .before .before .args in
+    let args = begin c .args in
     let q = c .q2 .given .0 in
     Taken (args .text .now) (args .at) (q .0) (q .1 .0) (q .1 .1 .0) (q .1 .1 .1 .0)
 taken c =
-    let args = c .before .before .before .before .before .before .before .before .args in
+    let args = begin c .args in
+    let read = c .before .before .literal-at in
     let q = c .q2 .given .0 in
-    literal-taken (args .text .now) (args .at) (c .before .before .literal-at .result) (c .before .before .literal-at .ensures) (q .0) (q .1 .0) (q .1 .1 .0) (q .1 .1 .1 .0) (c .q2 .given .1)
+    literal-taken (args .text .now) (args .at) (read .result) (read .ensures) (q .0) (q .1 .0) (q .1 .1 .0) (q .1 .1 .1 .0) (c .q2 .given .1)
 
 literal-far :
     (c : tie.After-letters) →
-    let read = c .before .before .before .before .before .before .before in
-    let args = read .before .before .before .before .before .before .before .before .args in
-    Onward (length (args .text .now)) (args .at) (read .q2 .given .0 .1 .1 .1 .0) (c .before .before .before .before .repeat .result) (c .letters .result) 2
-literal-far c = literal-onward (c .before .before .before .before .before .before .before .before .before .before .before .before .before .before .before .pre .0) (taken (c .before .before .before .before .before .before .before)) (c .before .before .before .before .repeat .ensures) (c .letters .ensures)
+    let told = c .before .before .before .before .before .before .before in
+    let args = begin told .args in
+    Onward (length (args .text .now)) (args .at) (told .q2 .given .0 .1 .1 .1 .0) (c .before .before .before .before .repeat .result) (c .letters .result) 2
+literal-far c =
+    let told = c .before .before .before .before .before .before .before in
+    literal-onward (begin told .pre .0) (taken told) (c .before .before .before .before .repeat .ensures) (c .letters .ensures)
 
 plain-at-requires : tie.Need-plain-at-requires
 plain-at-requires c κs = search needs
@@ -45,7 +56,7 @@ emit-requires : tie.Need-emit-requires
 emit-requires c κs = search needs
 
 shared-slice-read-emit : tie.Need-shared-slice-read-emit
-shared-slice-read-emit c = plain-inside (c .before .before .before .before .before .before .before .before .before .before .before .args .text .now) (c .before .before .before .before .before .before .before .before .before .before .before .args .at) (plain (c .before .before .before .before .before .before))
+shared-slice-read-emit c = inside (c .before .before .before .before .before .before)
 
 emit-requires-2 : tie.Need-emit-requires-2
 emit-requires-2 c κs = search needs
@@ -60,7 +71,9 @@ add-stars-3 : tie.Need-add-stars-3
 add-stars-3 c = search needs
 
 stars-requires : tie.Need-stars-requires
-stars-requires c κs = begun (plain-far (c .before .before .before .before .before .before .before .before .before .before)) (c .before .before .before .before .before .before .before .before .before .before .before .before .before .before .before .pre .0 .short)
+stars-requires c κs =
+    let read = c .before .before .before .before .before .before .before .before .before .before in
+    begun (plain-far read) (start read .pre .0 .short)
 
 same-length : tie.Need-same-length
 same-length c = search needs
@@ -70,10 +83,11 @@ same-length-2 c = search needs
 
 returns : tie.Need-returns
 returns c =
-    let emitted = c .before .before .before .before .before .before in
-    let args = emitted .before .before .before .before .before .before .before .before .before .before .before .before .args in
-    λ d. c .before .before .stars .ensures d (args .at) (out (args .n) (args .nodes .now) (args .l) (args .lits .now)) (emitted .emit2 .last .0)
-    (part-plain (plain (emitted .before .before .before .before .before .before .before)) (emitted .before .before .before .before .before .emit .ensures) (emitted .emit2 .ensures)) (plain-far (emitted .before .before .before .before .before .before .before))
+    let read = c .before .before .before .before .before .before .before .before .before .before .before .before .before in
+    let args = start read .args in
+    let stored = c .before .before .before .before .before .before .emit2 in
+    λ d. c .before .before .stars .ensures d (args .at) (out (args .n) (args .nodes .now) (args .l) (args .lits .now)) (stored .last .0)
+    (part-plain (plain read) (c .before .before .before .before .before .before .before .before .before .before .before .emit .ensures) (stored .ensures)) (plain-far read)
 
 literal-at-requires : tie.Need-literal-at-requires
 literal-at-requires c κs = search needs
@@ -93,16 +107,16 @@ enum-known-q-2 c = search needs
 
 repeat-requires : tie.Need-repeat-requires
 repeat-requires c κs =
-    let begun = c .before .before .before .before .before .before .before .before .before .before .pre .0 in
-    omega (arith, taken (c .before .before) .most, begun .inside, begun .short, begun .nodes)
+    let b = begin (c .before .before) .pre .0 in
+    omega (arith, taken (c .before .before) .most, b .inside, b .short, b .nodes)
 
 letters-requires : tie.Need-letters-requires
 letters-requires c κs =
-    let begun = c .before .before .before .before .before .before .before .before .before .before .before .before .before .before .pre .0 in
-    omega (arith, taken (c .before .before .before .before .before .before) .most, begun .inside, begun .short, begun .leaves)
+    let b = begin (c .before .before .before .before .before .before) .pre .0 in
+    omega (arith, taken (c .before .before .before .before .before .before) .most, b .inside, b .short, b .leaves)
 
 stars-requires-2 : tie.Need-stars-requires-2
-stars-requires-2 c κs = begun (literal-far (c .before .before .before)) (c .before .before .before .before .before .before .before .before .before .before .before .before .before .before .before .before .before .before .pre .0 .short)
+stars-requires-2 c κs = begun (literal-far (c .before .before .before)) (begin (c .before .before .before .before .before .before .before .before .before .before) .pre .0 .short)
 
 same-length-3 : tie.Need-same-length-3
 same-length-3 c = search needs
@@ -112,10 +126,11 @@ same-length-4 c = search needs
 
 returns-3 : tie.Need-returns-3
 returns-3 c =
-    let emitted = c .before .before .before .before .before .before in
-    let args = emitted .before .before .before .before .before .before .before .before .before .before .before .before .before .before .before .args in
-    λ d. c .before .before .stars2 .ensures d (args .at) (out (args .n) (args .nodes .now) (args .l) (args .lits .now)) (emitted .letters .last .0)
-    (part-literal (taken (emitted .before .before .before .before .before .before .before)) (emitted .before .before .before .before .repeat .ensures) (emitted .letters .ensures)) (literal-far emitted)
+    let done = c .before .before .before .before .before .before in
+    let told = done .before .before .before .before .before .before .before in
+    let args = begin told .args in
+    λ d. c .before .before .stars2 .ensures d (args .at) (out (args .n) (args .nodes .now) (args .l) (args .lits .now)) (done .letters .last .0)
+    (part-literal (taken told) (done .before .before .before .before .repeat .ensures) (done .letters .ensures)) (literal-far done)
 
 pub literal-spec : {M : Type 1} → statement M
 literal-spec =

@@ -34,7 +34,9 @@ same-length-2 : tie.Need-same-length-2
 same-length-2 c = search needs
 
 returns : tie.Need-returns
-returns c = let told = c .enum-told .given in rw (told .1) ((rw (told .1) at (c .before .before .before .before .before .before .alternation .ensures)) [] tt refl)
+returns c =
+    let told = c .enum-told .given in
+    rw (told .1) ((rw (told .1) at (c .before .before .before .before .before .before .alternation .ensures)) [] tt refl)
 
 is-requires : tie.Need-is-requires
 is-requires c κs = search needs
@@ -58,7 +60,9 @@ same-length-6 : tie.Need-same-length-6
 same-length-6 c = search needs
 
 returns-3 : tie.Need-returns-3
-returns-3 c = text-done (read (c .before .before .before)) (c .before .before .before .before .before .before .before .before .before .before .before .before .before .before .before .pre) (sym (c .before .is .ensures) ∙ c .if1 .left)
+returns-3 c =
+    let told = c .before .before .before in
+    text-done (read told) (told .before .before .before .before .before .before .before .before .before .before .before .before .pre) (sym (c .before .is .ensures) ∙ c .if1 .left)
 
 pub read-text-spec : {M : Type 1} → statement M
 read-text-spec =

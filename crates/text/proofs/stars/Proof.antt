@@ -22,7 +22,7 @@ abbrev μ-loop : tie.MeasureT-loop
 μ-loop text nodes₀ at n l i₀ m₀ nodes i m = length text - i
 
 -- a star stands here
-star : (c : tie.Then1 Inv-loop μ-loop) → let loop = c .before .before .loop in starts (drop (loop .i) (c .before .before .before .before .before .args .text .now)) asterisk ≡ true
+star : (c : tie.Then1 Inv-loop μ-loop) → starts (drop (c .before .before .loop .i) (c .before .before .before .before .before .args .text .now)) asterisk ≡ true
 star c = sym (c .before .is .ensures) ∙ c .if1 .taken
 
 inside : (c : tie.Then1 Inv-loop μ-loop) → c .before .before .loop .i < length (c .before .before .before .before .before .args .text .now)
@@ -42,8 +42,9 @@ add-i c = omega (arith, c .before .before .before .before .before .before .befor
 
 add-m : tie.Need-add-m Inv-loop μ-loop
 add-m c =
+    let pre = c .before .before .before .before .before .before .before .before .before .pre in
     let (goes, count, along, in-text, kept) = c .before .before .before .before .before .before .loop .inv in
-    omega (arith, c .before .before .before .before .before .before .before .before .before .pre .short, c .before .before .before .before .before .before .before .before .before .pre .nodes, inside (c .before .before .before .before), count, along)
+    omega (arith, pre .short, pre .nodes, inside (c .before .before .before .before), count, along)
 
 loop-less : tie.Need-loop-less Inv-loop μ-loop
 loop-less c = omega (arith, inside (c .before .before .before .before))
