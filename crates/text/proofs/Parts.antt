@@ -109,7 +109,8 @@ joined-letters f h none t = refl
 joined-letters f h (some r) t = sym (h r t)
 
 -- a part more, and the operator if something stood before
-joined : (f : Tree ℕ → Tree ℕ → Tree ℕ) (k : ℕ) → ((r t : Tree ℕ) → postorder (f r t) ≡ postorder r ++ postorder t ++ k ∷ []) → ((r t : Tree ℕ) → leaves (f r t) ≡ leaves r ++ leaves t)
+joined : (f : Tree ℕ → Tree ℕ → Tree ℕ) (k : ℕ) → ((r t : Tree ℕ) → postorder (f r t) ≡ postorder r ++ postorder t ++ k ∷ [])
+    → ((r t : Tree ℕ) → leaves (f r t) ≡ leaves r ++ leaves t)
     → {o p : Out} {m i : ℕ} {ys ws : List ℕ} {j : ℕ} {cs : List ℕ} {again : Bool} (before : Option (Tree ℕ)) (t : Tree ℕ) → again ≡ isSome before
     → Stored o p (nodesOf before) (lettersOf before) → Stored p (out m ys j cs) (postorder t) (leaves t) → Wrote m ys i ws (opIf again k)
     → Stored o (out i ws j cs) (postorder (after f before t)) (leaves (after f before t))
