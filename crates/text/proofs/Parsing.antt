@@ -7,9 +7,9 @@ use Prim.Native.Nat.{ℕ, zero, suc}
 use native.Mathlib.Omega.{arith}
 use lib.ListN.{length}
 use Rattle.rules.specs.Limits.{openLimit}
-use Rattle.language.specs.Tree.{Tree, empty, cat, alt, star}
+use Rattle.language.specs.Tree.{Tree, cat, alt, star}
 use Rattle.lexer.specs.Tokens.{aLiteral, aBar, aStar, anOpen, aClose, aFault, Placed, placed, tokensFrom}
-use Rattle.text.specs.Grammar.{copies, Level, unit, sequence, alternation, Parses, literal, void, group, starred, one, then, only, or}
+use Rattle.text.specs.Grammar.{Level, unit, sequence, alternation, Parses, literal, void, group, starred, one, then, only, or}
 use Rattle.text.specs.Walk.{Fault, Frame, begin, going, after, value, put, tree, fault, run, parse}
 use Rattle.text.specs.Outcome.{TreeOfText}
 

@@ -6,14 +6,12 @@ use Prim.Native.Nat.{ℕ, suc, _+_, _<_, _≤_}
 use native.Mathlib.Omega.{arith}
 use lib.ListN.{length, drop, replicate, length-replicate}
 use Rattle.rules.specs.Limits.{textLimit, openLimit}
-use Rattle.lexer.specs.declared.Refusal.{Refusal}
 use Rattle.lexer.specs.Bytes.{rightParenthesis}
 use Rattle.lexer.specs.Tokens.{starts}
 use Rattle.lexer.specs.Places.{Taken}
 use Rattle.emission.specs.Wrote.{Wrote, repeatNodes}
 use Rattle.emission.proofs.Copies.{repeat-short}
-use Rattle.text.specs.declared.Read.{Read}
-use Rattle.text.specs.declared.Read.the-variants.{Done, Refused}
+use Rattle.text.specs.declared.Read.the-variants.{Done}
 use Rattle.text.specs.Reads.{Begun, Onward, Out, out, AltRead, TextRead}
 use Rattle.text.proofs.Faults.{at-end}
 use Rattle.text.proofs.Parts.{whole}
@@ -77,11 +75,3 @@ pub text-done : {t xs ys bs cs : List ℕ} {next m k : ℕ} → AltRead t openLi
 text-done {t} {next = next} (p, e, n) h w =
     let a = at-end t next e w in
     (whole p a, omega (arith, n .inside), omega (arith, n .nodes, n .inside), omega (arith, n .leaves, n .inside))
-
--- its answer, taken apart
-module _ (t xs ys bs cs : List ℕ) (r : Read) (w : TextRead t xs ys bs cs r) where
-  pub text-refused : (f : Refusal) → r ≡ Refused f → TextRead t xs ys bs cs (Refused f)
-  text-refused f e = rw e at w
-
-  pub text-read : (next m k : ℕ) → r ≡ Done next m k → TextRead t xs ys bs cs (Done next m k)
-  text-read next m k e = rw e at w

@@ -4,7 +4,7 @@ use lib.ListN.{length, drop}
 use mathlib.Core.Bool.{true}
 use mathlib.Core.Path.{sym, _∙_, _≡_}
 use native.Mathlib.Omega.{arith}
-use Rattle.lexer.proofs.Units.{plain-inside, literal-taken, literal-fault}
+use Rattle.lexer.proofs.Units.{plain-inside}
 use Rattle.lexer.specs.Places.{plainAt, Taken}
 use Rattle.text.proofs.Faults.{fails-token}
 use Rattle.text.proofs.Parts.{part-plain, part-literal}
@@ -34,11 +34,7 @@ taken :
     let args = begin c .args in
     let q = c .q2 .given .0 in
     Taken (args .text .now) (args .at) (q .0) (q .1 .0) (q .1 .1 .0) (q .1 .1 .1 .0)
-taken c =
-    let args = begin c .args in
-    let read = c .before .before .literal-at in
-    let q = c .q2 .given .0 in
-    literal-taken (args .text .now) (args .at) (read .result) (read .ensures) (q .0) (q .1 .0) (q .1 .1 .0) (q .1 .1 .1 .0) (c .q2 .given .1)
+taken c = rw (c .q2 .given .1) at (c .before .before .literal-at .ensures)
 
 literal-far :
     (c : tie.After-letters) →
@@ -98,9 +94,8 @@ enum-known-q c = search needs
 returns-2 : tie.Need-returns-2
 returns-2 c =
     let args = c .before .before .before .before .before .before .before .before .before .args in
-    let read = c .before .before .before .literal-at in
     let q = c .before .q .given in
-    λ d. fails-token (args .text .now) d (args .at) (q .0 .0) (literal-fault (args .text .now) (args .at) (read .result) (read .ensures) (q .0 .0) (q .1))
+    λ d. fails-token (args .text .now) d (args .at) (q .0 .0) (rw (q .1) at (c .before .before .before .literal-at .ensures))
 
 enum-known-q-2 : tie.Need-enum-known-q-2
 enum-known-q-2 c = search needs
