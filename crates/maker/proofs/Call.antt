@@ -113,7 +113,8 @@ module _ {text xs nodes bs lits : List ℕ} {m l : ℕ} (h : length text ≤ tex
   leaf-count = omega (arith, v .lits .count)
 
   module _ {buffer after : List ℕ} {r : SheetAnswer} where
-    pub call-leaves : {p : ℕ} → leafLimit < l → PassesAt text p → r ≡ Refused (record { number = manyLeaves; place = p }) → after ≡ wiped buffer → SheetCall text buffer (sheetEnd r after)
+    pub call-leaves : {p : ℕ} → leafLimit < l → PassesAt text p → r ≡ Refused (record { number = manyLeaves; place = p }) → after ≡ wiped buffer
+        → SheetCall text buffer (sheetEnd r after)
     call-leaves {p} g w = call-refused (refusal-leaves text h (v .made) (v .found) p (omega (arith, leaf-count)) w)
 
     pub call-nodes : l ≤ leafLimit → nodeLimit < m → r ≡ Refused (record { number = manyNodes; place = length text }) → after ≡ wiped buffer

@@ -1,7 +1,7 @@
 use Prim.Native.Nat.{_+_, _≤_}
 use borrow.Author.Needs.{needs}
 use lib.ListN.{drop, length}
-use mathlib.Core.Bool.{true}
+use mathlib.Core.Bool.{true, false}
 use mathlib.Core.Path.{_≡_, ap, sym, _∙_}
 use native.Mathlib.Omega.{arith}
 use Rattle.rules.specs.Limits.{textLimit}
@@ -49,6 +49,15 @@ closed :
     let (y, (j, e)) = told .o .given .0 in
     closesAt (args .text .now) (args .at + (i + 1)) (args .at + (i + j + 2)) x y ≡ true
 closed c = sym (c .before .closes .ensures) ∙ c .if2 .taken
+
+unclosed :
+    (c : tie.Else2) →
+    let told = c .before .before .before in
+    let args = start (first told) .args in
+    let (x, (i, d)) = first told .q .given .0 in
+    let (y, (j, e)) = told .o .given .0 in
+    closesAt (args .text .now) (args .at + (i + 1)) (args .at + (i + j + 2)) x y ≡ false
+unclosed c = sym (c .before .closes .ensures) ∙ c .if2 .left
 
 -- so no place wraps
 small : (c : tie.After-o) → (start (first c) .args .at ≤ textLimit) × (first c .q .given .0 .1 .0 ≤ 2) × (c .o .given .0 .1 .0 ≤ 2)
@@ -149,8 +158,7 @@ returns-4 : tie.Need-returns-4
 returns-4 c =
     let told = c .before .before .before .before in
     let args = start (first told) .args in (
-      c .fault3 .ensures
-          ∙ repeat-bad (args .text .now) (args .b) (args .at) (brace (first told)) (number (first told)) (number-2 told) (sym (c .before .before .closes .ensures) ∙ c .before .if2 .left),
+      c .fault3 .ensures ∙ repeat-bad (args .text .now) (args .b) (args .at) (brace (first told)) (number (first told)) (number-2 told) (unclosed (c .before)),
       rw (c .fault3 .ensures) tt,
     )
 

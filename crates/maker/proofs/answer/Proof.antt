@@ -16,7 +16,9 @@ same-length c = search needs
 returns : tie.Need-returns
 returns c =
     let refuse = c .before .before .refuse in
-    λ xs bs v. call-leaves (c .before .before .before .before .before .before .before .before .before .before .pre .0) v (c .before .before .before .before .before .if1 .taken) (c .before .before .before .before .passing-place .ensures) (refuse .ensures .0) (refuse .ensures .1)
+    let here = c .before .before .before .before in
+    let many = here .before in
+    λ xs bs v. call-leaves (many .before .before .before .before .before .pre .0) v (many .if1 .taken) (here .passing-place .ensures) (refuse .ensures .0) (refuse .ensures .1)
 
 refuse-requires-2 : tie.Need-refuse-requires-2
 refuse-requires-2 c κs = search needs
@@ -27,7 +29,9 @@ same-length-2 c = search needs
 returns-2 : tie.Need-returns-2
 returns-2 c =
     let refuse = c .before .before .refuse2 in
-    λ xs bs v. call-nodes (c .before .before .before .before .before .before .before .before .before .before .pre .0) v (c .before .before .before .before .before .if1 .left) (c .before .before .before .before .if2 .taken) (refuse .ensures .0) (refuse .ensures .1)
+    let many = c .before .before .before .before in
+    let few = many .before in
+    λ xs bs v. call-nodes (few .before .before .before .before .before .pre .0) v (few .if1 .left) (many .if2 .taken) (refuse .ensures .0) (refuse .ensures .1)
 
 add-needed : tie.Need-add-needed
 add-needed c = search needs
@@ -44,7 +48,9 @@ same-length-3 c = search needs
 returns-3 : tie.Need-returns-3
 returns-3 c =
     let refuse = c .before .before .refuse3 in
-    λ xs bs v. call-short (c .before .before .before .before .before .before .before .before .before .before .before .pre .0) v (c .before .before .before .before .before .before .if1 .left) (c .before .before .before .before .before .if2 .left) (c .before .before .before .before .if3 .taken) (refuse .ensures .0) (refuse .ensures .1)
+    let short = c .before .before .before .before in
+    let few = short .before .before in
+    λ xs bs v. call-short (few .before .before .before .before .before .pre .0) v (few .if1 .left) (short .before .if2 .left) (short .if3 .taken) (refuse .ensures .0) (refuse .ensures .1)
 
 lay-requires : tie.Need-lay-requires
 lay-requires c κs =
@@ -58,8 +64,10 @@ same-length-4 c = search needs
 
 returns-4 : tie.Need-returns-4
 returns-4 c =
-    let pre = c .before .before .before .before .before .before .before .before .before .before .before .pre in
-    λ xs bs v. call-made (pre .0) v (c .before .before .before .before .before .before .if1 .left) (c .before .before .before .before .before .if2 .left) (pre .1) (pre .2) (c .before .before .before .before .if3 .left) (c .before .before .lay .ensures)
+    let fits = c .before .before .before .before in
+    let few = fits .before .before in
+    let pre = few .before .before .before .before .before .pre in
+    λ xs bs v. call-made (pre .0) v (few .if1 .left) (fits .before .if2 .left) (pre .1) (pre .2) (fits .if3 .left) (c .before .before .lay .ensures)
 
 pub answer-spec : {M : Type 1} → statement M
 answer-spec =

@@ -17,7 +17,10 @@ Inv-loop text i₀ i =
 abbrev μ-loop : tie.MeasureT-loop
 μ-loop text i₀ i = length text - i
 
-stepped : (c : tie.After-s Inv-loop μ-loop) → Stepped (c .before .before .before .before .before .before .args .text .now) (c .before .before .before .before .loop .i) (c .s .given .0 .0) (c .s .given .0 .1 .0)
+stepped :
+    (c : tie.After-s Inv-loop μ-loop) →
+    let head = c .before .before .before .before in
+    Stepped (head .before .before .args .text .now) (head .loop .i) (c .s .given .0 .0) (c .s .given .0 .1 .0)
 stepped c = rw (c .s .given .1) at (c .before .before .step-over .ensures)
 
 loop-holds : tie.Need-loop-holds Inv-loop μ-loop

@@ -63,7 +63,8 @@ returns c =
     let copied = c .before .before .before .before .before .before .before .before .before .before in
     let args = copied .before .before .before .before .before .args in
     let pre = copied .before .before .before .before .before .pre in
-    laid-filled (args .sheet .now) (args .lits .now) (args .l) (args .nodes .now) (args .m) (pre .0) (pre .2) (pre .4) (copied .copy-in .ensures) (c .before .before .before .before .before .before .copy-in2 .ensures) (c .before .before .wipe-from .ensures)
+    laid-filled (args .sheet .now) (args .lits .now) (args .l) (args .nodes .now) (args .m) (pre .0) (pre .2) (pre .4) (copied .copy-in .ensures)
+    (c .before .before .before .before .before .before .copy-in2 .ensures) (c .before .before .wipe-from .ensures)
 
 pub lay-spec : {M : Type 1} → statement M
 lay-spec =

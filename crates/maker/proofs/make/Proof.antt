@@ -24,7 +24,8 @@ same-length c = search needs
 returns : tie.Need-returns
 returns c =
     let refuse = c .before .before .refuse in
-    call-refused (refusal-long (c .before .before .before .before .before .before .before .args .text .now) (c .before .before .before .before .if1 .taken)) (refuse .ensures .0) (refuse .ensures .1)
+    let long = c .before .before .before .before in
+    call-refused (refusal-long (long .before .before .before .args .text .now) (long .if1 .taken)) (refuse .ensures .0) (refuse .ensures .1)
 
 slice-aggregate-read-text : tie.Need-slice-aggregate-read-text
 slice-aggregate-read-text c = search needs
@@ -45,7 +46,9 @@ same-length-2 : tie.Need-same-length-2
 same-length-2 c = search needs
 
 returns-2 : tie.Need-returns-2
-returns-2 c = c .before .before .refuse-first .ensures (rw (c .before .before .before .before .before .r .given .1) at (c .before .before .before .before .before .before .before .before .before .read-text .ensures))
+returns-2 c =
+    let told = c .before .before .before .before .before in
+    c .before .before .refuse-first .ensures (rw (told .r .given .1) at (told .before .before .before .before .read-text .ensures))
 
 enum-known-r-2 : tie.Need-enum-known-r-2
 enum-known-r-2 c = search needs

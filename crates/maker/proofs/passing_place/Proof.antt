@@ -18,7 +18,10 @@ Inv-loop text i₀ n₀ i n =
 abbrev μ-loop : tie.MeasureT-loop
 μ-loop text i₀ n₀ i n = length text - i
 
-stepped : (c : tie.After-s Inv-loop μ-loop) → Stepped (c .before .before .before .before .before .before .args .text .now) (c .before .before .before .before .loop .i) (c .s .given .0 .0) (c .s .given .0 .1 .0)
+stepped :
+    (c : tie.After-s Inv-loop μ-loop) →
+    let head = c .before .before .before .before in
+    Stepped (head .before .before .args .text .now) (head .loop .i) (c .s .given .0 .0) (c .s .given .0 .1 .0)
 stepped c = rw (c .s .given .1) at (c .before .before .step-over .ensures)
 
 loop-holds : tie.Need-loop-holds Inv-loop μ-loop
@@ -35,10 +38,11 @@ enum-told c = search needs
 
 returns : tie.Need-returns Inv-loop μ-loop
 returns c =
-    let text = c .before .before .before .before .before .before .args .text .now in
-    let loop = c .before .before .before .before .loop in
+    let read = c .before .before in
+    let loop = read .before .before .loop in
+    let text = read .before .before .before .before .args .text .now in
     let told = c .enum-told .given in
-    passes-none text (loop .i) (loop .n) (loop .inv .0) (passing-over (loop .n) text (loop .i) (told .0 .0) (loop .inv .2) (rw (told .1) at (c .before .before .step-over .ensures)))
+    passes-none text (loop .i) (loop .n) (loop .inv .0) (passing-over (loop .n) text (loop .i) (told .0 .0) (loop .inv .2) (rw (told .1) at (read .step-over .ensures)))
 
 add-if1 : tie.Need-add-if1 Inv-loop μ-loop
 add-if1 c = omega (arith, stepped (c .before) .few, c .before .before .before .before .before .loop .inv .2)

@@ -18,7 +18,8 @@ same-length c = search needs
 returns : tie.Need-returns
 returns c =
     let refuse = c .before .before .refuse in
-    λ p. call-grammatical (c .before .before .before .before .before .before .before .before .before .before .pre) (c .before .before .before .before .before .before .before .first-walk .ensures) (c .before .before .before .before .before .s .given .1) p (refuse .ensures .0) (refuse .ensures .1)
+    let told = c .before .before .before .before .before in
+    λ p. call-grammatical (told .before .before .before .before .before .pre) (told .before .before .first-walk .ensures) (told .s .given .1) p (refuse .ensures .0) (refuse .ensures .1)
 
 enum-known-s-2 : tie.Need-enum-known-s-2
 enum-known-s-2 c = search needs
@@ -32,7 +33,8 @@ same-length-2 c = search needs
 returns-2 : tie.Need-returns-2
 returns-2 c =
     let refuse = c .before .before .refuse2 in
-    λ p. call-lexical (c .before .before .before .before .before .before .before .before .before .before .pre) (c .before .before .before .before .before .before .before .first-walk .ensures) (c .before .before .before .before .before .s2 .given .1) (refuse .ensures .0) (refuse .ensures .1)
+    let told = c .before .before .before .before .before in
+    λ p. call-lexical (told .before .before .before .before .before .pre) (told .before .before .first-walk .ensures) (told .s2 .given .1) (refuse .ensures .0) (refuse .ensures .1)
 
 pub refuse-first-spec : {M : Type 1} → statement M
 refuse-first-spec =

@@ -19,7 +19,9 @@ unit-at-requires : tie.Need-unit-at-requires
 unit-at-requires c κs = search needs
 
 literal-at-requires : tie.Need-literal-at-requires
-literal-at-requires c κs = (c .before .before .before .before .before .pre .1, sym (c .before .unit-at .ensures) ∙ c .if2 .taken, sym (c .before .before .before .is .ensures) ∙ c .before .before .if1 .left)
+literal-at-requires c κs =
+    let unopened = c .before .before in
+    (unopened .before .before .before .pre .1, sym (c .before .unit-at .ensures) ∙ c .if2 .taken, sym (unopened .before .is .ensures) ∙ unopened .if1 .left)
 
 enum-known-q : tie.Need-enum-known-q
 enum-known-q c = search needs
@@ -31,7 +33,10 @@ enum-known-q-2 : tie.Need-enum-known-q-2
 enum-known-q-2 c = search needs
 
 returns-3 : tie.Need-returns-3
-returns-3 c = step-literal (c .before .before .before .before .before .before .before .before .before .args .text .now) (c .before .before .before .before .before .before .before .before .before .args .at) (rw (c .before .q2 .given .1) at (c .before .before .before .literal-at .ensures))
+returns-3 c =
+    let read = c .before .before .before in
+    let args = read .before .before .before .before .before .before .args in
+    step-literal (args .text .now) (args .at) (rw (c .before .q2 .given .1) at (read .literal-at .ensures))
 
 add-t12 : tie.Need-add-t12
 add-t12 c = search needs
