@@ -1,5 +1,5 @@
 -- Numbers and repeats: one law for each answer of the functions that read them.
-use mathlib.Core.Path.{_≡_, refl, ap, sym, _∙_}
+use mathlib.Core.Path.{_≡_, refl, _∙_}
 use mathlib.Core.Bool.{true, false, _&&_}
 use mathlib.Core.List.{List}
 use Prim.Native.Nat.{ℕ, _+_, _*_, _-_, _<_, _≤_}
@@ -10,12 +10,10 @@ use lib.Dec.{leb}
 use borrow.Author.Tests.{leb-true}
 use Rattle.rules.specs.Numbers.{strangeRepeat}
 use Rattle.rules.proofs.Truth.{and-true-left, and-true-right}
-use Rattle.lexer.specs.declared.Figure.{Figure}
-use Rattle.lexer.specs.declared.Figure.the-variants.{Digits, Nothing}
 use Rattle.lexer.specs.declared.Literal.the-variants.{Of}
 use Rattle.lexer.specs.Bytes.{digitZero, digitNine, leftBrace, rightBrace, comma, isDigit}
 use Rattle.lexer.specs.Tokens.{digits, noNumber, digitAt, numberAt, repeatAt, starts}
-use Rattle.lexer.specs.Places.{mostCopies, numberOf, FigureFits, closesAt, refusedAs, literalWith}
+use Rattle.lexer.specs.Places.{closesAt, refusedAs, literalWith}
 use Rattle.lexer.proofs.Front.{front-in, front-inside, byte-inside}
 
 pub digit-bounds : (t : List ℕ) (at : ℕ) → digitAt (drop at t) ≡ true → (digitZero ≤ getD t at 0) × (getD t at 0 ≤ digitNine)
@@ -38,17 +36,7 @@ module _ (t : List ℕ) (at : ℕ) where
   pub figure-none : digitAt (drop at t) ≡ false → noNumber ≡ numberAt (drop at t)
   figure-none d = rw d refl
 
--- a figure taken apart
-module _ (s : List ℕ) (r : Figure) (n : numberOf r ≡ numberAt s) where
-  pub figure-is : (x i : ℕ) → r ≡ Digits x i → numberAt s ≡ digits x i
-  figure-is x i e = sym n ∙ ap numberOf e
-
-  pub figure-absent : r ≡ Nothing → numberAt s ≡ noNumber
-  figure-absent e = sym n ∙ ap numberOf e
-
-pub figure-fits : (len at : ℕ) (r : Figure) (x i : ℕ) → r ≡ Digits x i → FigureFits len at r → (x ≤ mostCopies) × (i ≤ 2) × (at + i ≤ len)
-figure-fits len at r x i e f = rw e at f
-
+-- a repeat
 module _ (t : List ℕ) (b at : ℕ) where
   pub repeat-absent : starts (drop at t) leftBrace ≡ false → Of b 1 1 at ≡ literalWith b at (repeatAt (drop at t))
   repeat-absent e = rw e refl
@@ -57,11 +45,11 @@ module _ (t : List ℕ) (b at : ℕ) where
     pub repeat-first : numberAt (drop (at + 1) t) ≡ noNumber → refusedAs strangeRepeat at ≡ literalWith b at (repeatAt (drop at t))
     repeat-first d = rw (e, drop-drop 1 at t, d) refl
 
-    module _ (x i : ℕ) (p : numberAt (drop (at + 1) t) ≡ digits x i) where
+    module _ {x i : ℕ} (p : numberAt (drop (at + 1) t) ≡ digits x i) where
       pub repeat-second : numberAt (drop (at + (i + 2)) t) ≡ noNumber → refusedAs strangeRepeat at ≡ literalWith b at (repeatAt (drop at t))
       repeat-second d = rw (e, drop-drop 1 at t, p, drop-drop (i + 2) at t, d) refl
 
-      module _ (y j : ℕ) (q : numberAt (drop (at + (i + 2)) t) ≡ digits y j) where
+      module _ {y j : ℕ} (q : numberAt (drop (at + (i + 2)) t) ≡ digits y j) where
         pub repeat-good : closesAt t (at + (i + 1)) (at + (i + j + 2)) x y ≡ true → Of b x y (at + (i + j + 3)) ≡ literalWith b at (repeatAt (drop at t))
         repeat-good d = rw (e, drop-drop 1 at t, p, drop-drop (i + 2) at t, q, drop-drop (i + 1) at t, drop-drop (i + j + 2) at t, d) refl
 

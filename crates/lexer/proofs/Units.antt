@@ -14,12 +14,11 @@ use borrow.Author.Tests.{lt-ltb, le-ltb, le-leb, lt-leb, ne-eqb, not-true}
 use Rattle.rules.specs.Limits.{lowestByte, highestByte, outside}
 use Rattle.rules.specs.Numbers.{strangeByte, strangeRepeat}
 use Rattle.rules.proofs.Truth.{and-true-left, and-true-right, or-false-left, or-false-right}
-use Rattle.lexer.specs.declared.Refusal.{Refusal}
 use Rattle.lexer.specs.declared.Literal.{Literal}
-use Rattle.lexer.specs.declared.Literal.the-variants.{Of, Fault}
+use Rattle.lexer.specs.declared.Literal.the-variants.{Of}
 use Rattle.lexer.specs.Bytes.{bar, asterisk, leftParenthesis, rightParenthesis, backslash, leftBrace, rightBrace, isMark}
 use Rattle.lexer.specs.Tokens.{Repeat, noRepeat, badRepeat, repeat, repeatAt, aLiteral, placed, wrong, literalOf, starts, markAt, tokenOf, tokensFrom}
-use Rattle.lexer.specs.Places.{startsUnit, unitAt, isPlain, plainAt, refusedAs, literalWith, LiteralFits, Taken, Faulty, LiteralIs}
+use Rattle.lexer.specs.Places.{startsUnit, unitAt, isPlain, plainAt, refusedAs, literalWith, LiteralFits, LiteralIs}
 use Rattle.lexer.proofs.Front.{front-in, front-inside, tokens-token, tokens-wrong}
 
 -- the byte is none of the marks that are tokens by themselves
@@ -96,19 +95,12 @@ module _ (t : List ℕ) (at : ℕ) (u : unitAt (drop at t) ≡ true) (p : starts
       pub literal-high : highestByte < getD t at 0 → LiteralIs t at (refusedAs strangeByte at)
       literal-high g = fault-here strangeByte (past (le-ltb (getD t at 0) lowestByte f) (lt-ltb highestByte (getD t at 0) g))
 
-      pub literal-plain : (q : Literal) → getD t at 0 ≤ highestByte → q ≡ literalWith (getD t at 0) (at + 1) (repeatAt (drop (at + 1) t)) → LiteralFits (length t) (at + 1) q → LiteralIs t at q
+      pub literal-plain : (q : Literal) → getD t at 0 ≤ highestByte → q ≡ literalWith (getD t at 0) (at + 1) (repeatAt (drop (at + 1) t))
+          → LiteralFits (length t) (at + 1) q → LiteralIs t at q
       literal-plain q g w v =
           let z : at + 1 ≡ at + 1 + 0 = omega arith in
           taken (getD t at 0) 0 (repeatAt (drop (at + 1) t)) q (w ∙ rw (← z) refl) (rw (← z) v)
           (past (le-ltb (getD t at 0) lowestByte f) (le-ltb highestByte (getD t at 0) g))
-
--- a literal's answer, taken apart
-module _ (t : List ℕ) (at : ℕ) (r : Literal) (w : LiteralIs t at r) where
-  pub literal-taken : (b x y next : ℕ) → r ≡ Of b x y next → Taken t at b x y next
-  literal-taken b x y next e = rw e at w
-
-  pub literal-fault : (f : Refusal) → r ≡ Fault f → Faulty t at f
-  literal-fault f e = rw e at w
 
 -- the short way: no mark, and no repeat
 
@@ -146,4 +138,5 @@ module _ (t : List ℕ) (at : ℕ) (p : plainAt (drop at t) ≡ true) where
       let z : at + 1 + 0 ≡ at + 1 = omega arith in
       rw z at
       (tokens-token t at plain-inside (aLiteral (getD t at 0) 1 1) 0
-      (rw (or-false-left (eqb b bar) _ m, or-false-left (eqb b asterisk) _ m2, or-false-left (eqb b leftParenthesis) _ m3, or-false-left (eqb b rightParenthesis) _ m4, or-false-left (eqb b backslash) _ m5, m6, o, e) refl))
+      (rw (or-false-left (eqb b bar) _ m, or-false-left (eqb b asterisk) _ m2, or-false-left (eqb b leftParenthesis) _ m3)
+      (rw (or-false-left (eqb b rightParenthesis) _ m4, or-false-left (eqb b backslash) _ m5, m6, o, e) refl)))

@@ -92,39 +92,36 @@ module _ (text : List ℕ) (h : length text ≤ textLimit) where
 
 -- WHAT THE CALL ENDS WITH
 -- the buffer was wiped
-module _ (text buffer : List ℕ) (r : SheetAnswer) (after : List ℕ) where
-  pub call-refused : (k : Refusal) → textRefusal text ≡ some (faultOf k) → r ≡ Refused k → after ≡ wiped buffer → SheetCall text buffer (sheetEnd r after)
-  call-refused k e q w = rw (q, w) (refused e)
+module _ {text buffer : List ℕ} {r : SheetAnswer} {after : List ℕ} {k : Refusal} where
+  pub call-refused : textRefusal text ≡ some (faultOf k) → r ≡ Refused k → after ≡ wiped buffer → SheetCall text buffer (sheetEnd r after)
+  call-refused e q w = rw (q, w) (refused e)
 
   -- after the walk of 11 and 19
-  module _ (h : length text ≤ textLimit) (s : Step) (v : FirstWalk text s) (w : after ≡ wiped buffer) where
-    pub call-lexical : (k : Refusal) → s ≡ Wrong k → r ≡ Refused k → SheetCall text buffer (sheetEnd r after)
-    call-lexical k e q = call-refused k (refusal-lexical text h (faultOf k) (rw e at v)) q w
+  module _ {s : Step} (h : length text ≤ textLimit) (v : FirstWalk text s) where
+    pub call-lexical : s ≡ Wrong k → r ≡ Refused k → after ≡ wiped buffer → SheetCall text buffer (sheetEnd r after)
+    call-lexical e q w = call-refused (refusal-lexical text h (faultOf k) (rw e at v)) q w
 
-    pub call-grammatical : (next y : ℕ) → s ≡ On next y → (k : Refusal) → r ≡ Refused k → parse text ≡ fault (faultOf k) → SheetCall text buffer (sheetEnd r after)
-    call-grammatical next y e k q p = call-refused k (refusal-grammatical text h (faultOf k) (rw e at v) p) q w
+    pub call-grammatical : {next y : ℕ} → s ≡ On next y → parse text ≡ fault (faultOf k) → r ≡ Refused k → after ≡ wiped buffer → SheetCall text buffer (sheetEnd r after)
+    call-grammatical e p q w = call-refused (refusal-grammatical text h (faultOf k) (rw e at v) p) q w
 
 -- the text has been read
-module _ (text buffer xs nodes bs lits : List ℕ) (m l : ℕ) (h : length text ≤ textLimit) (v : Whole text xs nodes bs lits m l) where
+module _ {text xs nodes bs lits : List ℕ} {m l : ℕ} (h : length text ≤ textLimit) (v : Whole text xs nodes bs lits m l) where
   node-count : length (postorder (v .made)) ≡ m
   node-count = omega (arith, v .nodes .count)
 
   leaf-count : length (leaves (v .made)) ≡ l
   leaf-count = omega (arith, v .lits .count)
 
-  pub call-leaves : (r : SheetAnswer) (after : List ℕ) (p : ℕ) → leafLimit < l → PassesAt text p → r ≡ Refused (record { number = manyLeaves; place = p }) → after ≡ wiped buffer
-      → SheetCall text buffer (sheetEnd r after)
-  call-leaves r after p g w q z =
-      call-refused text buffer r after (record { number = manyLeaves; place = p })
-      (refusal-leaves text h (v .made) (v .found) p (omega (arith, leaf-count)) w) q z
+  module _ {buffer after : List ℕ} {r : SheetAnswer} where
+    pub call-leaves : {p : ℕ} → leafLimit < l → PassesAt text p → r ≡ Refused (record { number = manyLeaves; place = p }) → after ≡ wiped buffer
+        → SheetCall text buffer (sheetEnd r after)
+    call-leaves {p} g w = call-refused (refusal-leaves text h (v .made) (v .found) p (omega (arith, leaf-count)) w)
+
+    pub call-nodes : l ≤ leafLimit → nodeLimit < m → r ≡ Refused (record { number = manyNodes; place = length text }) → after ≡ wiped buffer
+        → SheetCall text buffer (sheetEnd r after)
+    call-nodes g k = call-refused (refusal-nodes text h (v .made) (v .found) (omega (arith, leaf-count)) (omega (arith, node-count)))
 
   module _ (g : l ≤ leafLimit) where
-    pub call-nodes : (r : SheetAnswer) (after : List ℕ) → nodeLimit < m → r ≡ Refused (record { number = manyNodes; place = length text }) → after ≡ wiped buffer
-        → SheetCall text buffer (sheetEnd r after)
-    call-nodes r after k q z =
-        call-refused text buffer r after (record { number = manyNodes; place = length text })
-        (refusal-nodes text h (v .made) (v .found) (omega (arith, leaf-count)) (omega (arith, node-count))) q z
-
     module _ (k : m ≤ nodeLimit) where
       none-refuses : textRefusal text ≡ none
       none-refuses = no-refusal text h (v .made) (v .found) (omega (arith, leaf-count)) (omega (arith, node-count))
@@ -132,15 +129,15 @@ module _ (text buffer xs nodes bs lits : List ℕ) (m l : ℕ) (h : length text 
       sheet-length : length (sheetOf (v .made)) ≡ 3 + l + m
       sheet-length = omega (arith, length-append (leaves (v .made)) (length (postorder (v .made)) ∷ postorder (v .made)), leaf-count, node-count)
 
-      pub call-short : (r : SheetAnswer) (after : List ℕ) → length buffer < 3 + l + m → r ≡ Refused (record { number = shortSheet; place = 3 + l + m }) → after ≡ wiped buffer
+      pub call-short : {buffer after : List ℕ} {r : SheetAnswer} → length buffer < 3 + l + m → r ≡ Refused (record { number = shortSheet; place = 3 + l + m }) → after ≡ wiped buffer
           → SheetCall text buffer (sheetEnd r after)
-      call-short r after c q z =
+      call-short {buffer} c q z =
           let s : length buffer < length (sheetOf (v .made)) = omega (arith, sheet-length) in
           rw (q, z, ← sheet-length) (answered none-refuses (short (parse-iff text (v .made) .0 (v .found)) s))
 
       -- what was stored is the front of each buffer
-      stored : (n : ℕ) (zs ys vs : List ℕ) → Wrote 0 zs n ys vs → n ≤ length ys → take n ys ≡ vs
-      stored n zs ys vs w c =
+      stored : {n : ℕ} {zs ys vs : List ℕ} → Wrote 0 zs n ys vs → n ≤ length ys → take n ys ≡ vs
+      stored {n} {zs} {ys} {vs} w c =
           let z : length ys ≡ length zs = ap length (w .bytes) ∙ length-sets zs 0 vs in
           let n′ : n ≡ length vs = omega (arith, w .count) in
           let e : ys ≡ vs ++ drop (length vs) zs = w .bytes ∙ sets-front zs vs (omega arith) in
@@ -148,12 +145,12 @@ module _ (text buffer xs nodes bs lits : List ℕ) (m l : ℕ) (h : length text 
 
       sections-sheet : length lits ≡ leafLimit → length nodes ≡ nodeLimit → sections lits l nodes m ≡ sheetOf (v .made)
       sections-sheet a b =
-          let x = stored l bs lits (leaves (v .made)) (v .lits) (omega arith) in
-          let y = stored m xs nodes (postorder (v .made)) (v .nodes) (omega arith) in
+          let x = stored (v .lits) (omega arith) in
+          let y = stored (v .nodes) (omega arith) in
           rw (x, y, leaf-count, node-count) refl
 
-      pub call-made : (after : List ℕ) → length lits ≡ leafLimit → length nodes ≡ nodeLimit → 3 + l + m ≤ length buffer → after ≡ filled buffer (sections lits l nodes m)
+      pub call-made : {buffer after : List ℕ} → length lits ≡ leafLimit → length nodes ≡ nodeLimit → 3 + l + m ≤ length buffer → after ≡ filled buffer (sections lits l nodes m)
           → SheetCall text buffer (sheetEnd (Made (3 + l + m)) after)
-      call-made after a b c z =
+      call-made {buffer} a b c z =
           let s : length (sheetOf (v .made)) ≤ length buffer = omega (arith, sheet-length) in
           rw (z ∙ ap (filled buffer) (sections-sheet a b), ← sheet-length) (answered none-refuses (made (parse-iff text (v .made) .0 (v .found)) s))

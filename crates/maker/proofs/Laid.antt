@@ -21,26 +21,27 @@ sets-front xs vs h =
     rw z at (sets-eq vs xs 0 (omega arith))
 
 module _ (buffer lits : List ℕ) (l : ℕ) (nodes : List ℕ) (m : ℕ) (p : l ≤ length lits) (q : m ≤ length nodes) where
-  pub sections-length : length (sections lits l nodes m) ≡ 3 + l + m
+  sections-length : length (sections lits l nodes m) ≡ 3 + l + m
   sections-length =
       omega (arith, length-append (take l lits) (m ∷ take m nodes), length-take-le l lits p, length-take-le m nodes q)
 
   -- the stores one after the other
-  pub laid : (a b c d e : List ℕ) → a ≡ set buffer 0 1 → b ≡ set a 1 l → c ≡ sets b 2 (take l lits) → d ≡ set c (2 + l) m → e ≡ sets d (3 + l) (take m nodes)
-      → e ≡ sets buffer 0 (sections lits l nodes m)
-  laid a b c d e u v w x y =
+  laid : (c e : List ℕ) → c ≡ sets (set (set buffer 0 1) 1 l) 2 (take l lits) → e ≡ sets (set c (2 + l) m) (3 + l) (take m nodes) → e ≡ sets buffer 0 (sections lits l nodes m)
+  laid c e w y =
+      let a = set buffer 0 1 in
       let i : 2 + l + 1 ≡ 3 + l = omega arith in
-      let head = wrote-both (wrote-one 0 buffer a 1 u) (wrote-one 1 a b l v) in
-      let some : Wrote 2 b (2 + l) c (take l lits) = record { count = omega (arith, length-take-le l lits p); bytes = w } in
-      let more : Wrote (3 + l) d (3 + l + m) e (take m nodes) = record { count = omega (arith, length-take-le m nodes q); bytes = y } in
-      let count : Wrote (2 + l) c (3 + l) d (m ∷ []) = rw i at (wrote-one (2 + l) c d m x) in
+      let head = wrote-both (wrote-one 0 buffer a 1 refl) (wrote-one 1 a (set a 1 l) l refl) in
+      let some : Wrote 2 (set (set buffer 0 1) 1 l) (2 + l) c (take l lits) = record { count = omega (arith, length-take-le l lits p); bytes = w } in
+      let more : Wrote (3 + l) (set c (2 + l) m) (3 + l + m) e (take m nodes) = record { count = omega (arith, length-take-le m nodes q); bytes = y } in
+      let count : Wrote (2 + l) c (3 + l) (set c (2 + l) m) (m ∷ []) = rw i at (wrote-one (2 + l) c (set c (2 + l) m) m refl) in
       let all = wrote-both (wrote-both (wrote-both head some) count) more in
       all .bytes ∙ ap (λ (vs : List ℕ). sets buffer 0 (1 ∷ l ∷ vs)) (append-assoc (take l lits) (m ∷ []) (take m nodes))
 
   -- and zeros to the end
-  pub laid-filled : (e f : List ℕ) → 3 + l + m ≤ length buffer → e ≡ sets buffer 0 (sections lits l nodes m) → f ≡ take (3 + l + m) e ++ replicate (length e - (3 + l + m)) 0
-      → f ≡ filled buffer (sections lits l nodes m)
-  laid-filled e f h u v =
+  pub laid-filled : {c e f : List ℕ} → 3 + l + m ≤ length buffer → c ≡ sets (set (set buffer 0 1) 1 l) 2 (take l lits) → e ≡ sets (set c (2 + l) m) (3 + l) (take m nodes)
+      → f ≡ take (3 + l + m) e ++ replicate (length e - (3 + l + m)) 0 → f ≡ filled buffer (sections lits l nodes m)
+  laid-filled {c} {e} h x y v =
+      let u = laid c e x y in
       let s = sections lits l nodes m in
       let n = sections-length in
       let k : length (sections lits l nodes m) ≤ length buffer = omega arith in

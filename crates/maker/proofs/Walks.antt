@@ -16,10 +16,8 @@ use Rattle.lexer.specs.Bytes.{bar, asterisk, leftParenthesis, rightParenthesis}
 use Rattle.lexer.specs.Tokens.{Placed, placed, aLiteral, aBar, aStar, anOpen, aClose, starts, tokensFrom}
 use Rattle.lexer.specs.Places.{unitAt, Taken, Faulty}
 use Rattle.lexer.proofs.Front.{front-in, byte-inside, tokens-end, tokens-bar, tokens-star, tokens-open, tokens-close}
-use Rattle.maker.specs.declared.Step.{Step}
-use Rattle.maker.specs.declared.Step.the-variants.{On, Wrong}
 use Rattle.text.specs.Refusals.{at, lexical, leavesOf, passing}
-use Rattle.maker.specs.Steps.{Stepped, StepIs, FirstWalk, PassesAt}
+use Rattle.maker.specs.Steps.{Stepped, PassesAt}
 use Rattle.text.proofs.Faults.{joins}
 use Rattle.text.proofs.Made.{total}
 
@@ -36,8 +34,8 @@ module _ (t : List ℕ) (here : ℕ) where
     inside = omega (arith, byte-inside t here leftParenthesis e);
   }
 
-  pub step-literal : (b x y next : ℕ) → Taken t here b x y next → Stepped t here next y
-  step-literal b x y next g = record {
+  pub step-literal : {b x y next : ℕ} → Taken t here b x y next → Stepped t here next y
+  step-literal {b} {x} {y} g = record {
     token = aLiteral b x y;
     front = g .token;
     sound = λ ps. refl;
@@ -85,24 +83,12 @@ module _ (t : List ℕ) (here : ℕ) where
             inside = omega arith;
           }
 
-  -- a step's answer, taken apart
-  module _ (r : Step) (w : StepIs t here r) where
-    pub step-on : (next y : ℕ) → r ≡ On next y → Stepped t here next y
-    step-on next y e = rw e at w
-
-    pub step-wrong : (f : Refusal) → r ≡ Wrong f → Faulty t here f
-    step-wrong f e = rw e at w
-
 -- THE FIRST WALK
-module _ (t : List ℕ) (i : ℕ) where
-  pub walk-on : (next y : ℕ) → Stepped t i next y → lexical (tokensFrom t i) ≡ lexical (tokensFrom t 0) → lexical (tokensFrom t next) ≡ lexical (tokensFrom t 0)
-  walk-on next y s e = sym (s .sound (tokensFrom t next)) ∙ ap lexical (sym (s .front)) ∙ e
+pub walk-on : {t : List ℕ} {i next y : ℕ} → Stepped t i next y → lexical (tokensFrom t i) ≡ lexical (tokensFrom t 0) → lexical (tokensFrom t next) ≡ lexical (tokensFrom t 0)
+walk-on {t} {next = next} s e = sym (s .sound (tokensFrom t next)) ∙ ap lexical (sym (s .front)) ∙ e
 
-  pub walk-wrong : (r : Step) (f : Refusal) → r ≡ Wrong f → StepIs t i r → lexical (tokensFrom t i) ≡ lexical (tokensFrom t 0) → FirstWalk t r
-  walk-wrong r f q w e = rw q (sym e ∙ ap lexical (step-wrong t i r w f q))
-
-  pub walk-end : length t ≤ i → lexical (tokensFrom t i) ≡ lexical (tokensFrom t 0) → lexical (tokensFrom t 0) ≡ none
-  walk-end h e = sym e ∙ ap lexical (tokens-end t i h)
+pub walk-end : (t : List ℕ) (i : ℕ) → length t ≤ i → lexical (tokensFrom t i) ≡ lexical (tokensFrom t 0) → lexical (tokensFrom t 0) ≡ none
+walk-end t i h e = sym e ∙ ap lexical (tokens-end t i h)
 
 -- THE PLACE OF 16
 -- with no token left, or a fault, nothing passes
@@ -116,7 +102,7 @@ module _ (t : List ℕ) (i n : ℕ) (e : passing n (tokensFrom t i) ≡ passing 
   pub passes-end : length t ≤ i → PassesAt t i
   passes-end h = passes-none (ap (passing n) (tokens-end t i h))
 
-  module _ (next y : ℕ) (s : Stepped t i next y) where
+  module _ {next y : ℕ} (s : Stepped t i next y) where
     here : passing n (tokensFrom t i) ≡ cond (ltb leafLimit (n + y)) (some (at i manyLeaves)) (passing (n + y) (tokensFrom t next))
     here = rw (s .front, s .leaves) refl
 

@@ -136,8 +136,15 @@ module _ (text : List ℕ) (e : textRefusal text ≡ none) where
       go (fault f) q c d g = no-some (sym c)
       go (tree t) q c d g =
           let p = (parse-iff text t) .0 q in
-          let k = known p (writable text 0) in
-          (t, record { tree = p; few = omega (arith, k .sized, passed-total 0 (tokensFrom text 0) (omega arith) d); small = ltb-false nodeLimit (length (postorder t)) (not-because (ltb nodeLimit (length (postorder t))) _ g); plain = k .plain })
+          let k = known p (writable text 0) in (
+            t,
+            record {
+              tree = p;
+              few = omega (arith, k .sized, passed-total 0 (tokensFrom text 0) (omega arith) d);
+              small = ltb-false nodeLimit (length (postorder t)) (not-because (ltb nodeLimit (length (postorder t))) _ g);
+              plain = k .plain;
+            },
+          )
 
   -- the tree of a text that is not refused is within the limits
   pub within : (t : Tree ℕ) → TreeOfText text t → Within text t

@@ -78,5 +78,7 @@ pub text-number : (text : List ℕ) (f : Fault) → textRefusal text ≡ some f 
 text-number text f e =
     let w = writable text 0 in
     let long = because-gives Right (ltb textLimit (length text)) (at textLimit longText) (fixed longText (omega arith) (omega arith)) in
-    let all : AllGive Right (textGrounds text) = (long, (lexical-numbered (tokensFrom text 0) w, (run-numbered (length text) openLimit (tokensFrom text 0) (begin none) [] w, (passing-numbered 0 (tokensFrom text 0), (big-numbered (length text) (parse text), tt))))) in
+    let lexes = lexical-numbered (tokensFrom text 0) w in
+    let runs = run-numbered (length text) openLimit (tokensFrom text 0) (begin none) [] w in
+    let all : AllGive Right (textGrounds text) = (long, (lexes, (runs, (passing-numbered 0 (tokensFrom text 0), (big-numbered (length text) (parse text), tt))))) in
     rw e at (first-gives Right (textGrounds text) all)

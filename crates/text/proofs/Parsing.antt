@@ -7,9 +7,9 @@ use Prim.Native.Nat.{ℕ, zero, suc}
 use native.Mathlib.Omega.{arith}
 use lib.ListN.{length}
 use Rattle.rules.specs.Limits.{openLimit}
-use Rattle.language.specs.Tree.{Tree, empty, cat, alt, star}
+use Rattle.language.specs.Tree.{Tree, cat, alt, star}
 use Rattle.lexer.specs.Tokens.{aLiteral, aBar, aStar, anOpen, aClose, aFault, Placed, placed, tokensFrom}
-use Rattle.text.specs.Grammar.{copies, Level, unit, sequence, alternation, Parses, literal, void, group, starred, one, then, only, or}
+use Rattle.text.specs.Grammar.{Level, unit, sequence, alternation, Parses, literal, void, group, starred, one, then, only, or}
 use Rattle.text.specs.Walk.{Fault, Frame, begin, going, after, value, put, tree, fault, run, parse}
 use Rattle.text.specs.Outcome.{TreeOfText}
 
@@ -71,12 +71,14 @@ data FrameIn (d : ℕ) : Frame → List Placed → Type 0 where
   fresh : FrameIn d (begin none) []
   barred : (i : ℕ) {us : List Placed} {r : Tree ℕ} → Parses d alternation us r → FrameIn d (begin (some r)) (us ++ placed i aBar ∷ [])
   plain : {s : Option (Tree ℕ)} {u : Tree ℕ} {ws : List Placed} → SeqIn d s u ws → FrameIn d (going none s u) ws
-  further : (i : ℕ) {us ws : List Placed} {r : Tree ℕ} {s : Option (Tree ℕ)} {u : Tree ℕ} → Parses d alternation us r → SeqIn d s u ws → FrameIn d (going (some r) s u) (us ++ placed i aBar ∷ ws)
+  further : (i : ℕ) {us ws : List Placed} {r : Tree ℕ} {s : Option (Tree ℕ)} {u : Tree ℕ} → Parses d alternation us r → SeqIn d s u ws
+      → FrameIn d (going (some r) s u) (us ++ placed i aBar ∷ ws)
 
 -- D parentheses may be open in all, and d more
 data StackIn (D : ℕ) : ℕ → List Frame → List Placed → Type 0 where
   bottom : StackIn D D [] []
-  opened : {d : ℕ} (i : ℕ) {g : Frame} {gs : List Frame} {pre ws : List Placed} → StackIn D (suc d) gs pre → FrameIn (suc d) g ws → StackIn D d (g ∷ gs) (pre ++ (ws ++ placed i anOpen ∷ []))
+  opened : {d : ℕ} (i : ℕ) {g : Frame} {gs : List Frame} {pre ws : List Placed} → StackIn D (suc d) gs pre → FrameIn (suc d) g ws
+      → StackIn D d (g ∷ gs) (pre ++ (ws ++ placed i anOpen ∷ []))
 
 seq-value : {d : ℕ} {s : Option (Tree ℕ)} {u : Tree ℕ} {ws : List Placed} → SeqIn d s u ws → Parses d sequence ws (after cat s u)
 seq-value (alone p) = one p
@@ -105,33 +107,35 @@ never e = let z : _≡_ {A = ℕ} 0 1 = cc in absurd (omega arith)
 
 module _ (len D : ℕ) where
   -- one token more was seen
-  moved-on : {t : Tree ℕ} (pre ws : List Placed) (x : Placed) (ts : List Placed) → Parses D alternation (pre ++ (ws ++ x ∷ [] ++ ts)) t → Parses D alternation (pre ++ (ws ++ x ∷ ts)) t
+  moved-on : {t : Tree ℕ} (pre ws : List Placed) (x : Placed) (ts : List Placed) → Parses D alternation (pre ++ (ws ++ x ∷ [] ++ ts)) t
+      → Parses D alternation (pre ++ (ws ++ x ∷ ts)) t
   moved-on pre ws x ts p = rw (append-assoc ws (x ∷ []) ts) at p
 
   -- a parenthesis was closed
-  closed : {t : Tree ℕ} (o c : Placed) (pre vs ws ts : List Placed) → Parses D alternation (pre ++ (vs ++ (o ∷ ws ++ c ∷ []) ++ ts)) t → Parses D alternation (pre ++ (vs ++ o ∷ []) ++ (ws ++ c ∷ ts)) t
+  closed : {t : Tree ℕ} (o c : Placed) (pre vs ws ts : List Placed) → Parses D alternation (pre ++ (vs ++ (o ∷ ws ++ c ∷ []) ++ ts)) t
+      → Parses D alternation (pre ++ (vs ++ o ∷ []) ++ (ws ++ c ∷ ts)) t
   closed o c pre vs ws ts p = simp append-assoc (simp append-assoc at p)
 
-  sound : (d : ℕ) (ts : List Placed) (f : Frame) (gs : List Frame) (pre ws : List Placed) (t : Tree ℕ) → StackIn D d gs pre → FrameIn d f ws → run len d ts f gs ≡ tree t → Parses D alternation (pre ++ (ws ++ ts)) t
-  sound d [] (begin a) [] pre ws t st fr e = never e
-  sound d [] (going a s u) [] pre ws t bottom fr e = let h : value a s u ≡ t = cc in rw (append-nil ws, ← h) (frame-value fr)
-  sound d [] f (g ∷ gs) pre ws t st fr e = never e
-  sound d (placed i (aLiteral b x y) ∷ ts) f gs pre ws t st fr e = moved-on pre ws (placed i (aLiteral b x y)) ts (sound d ts (put (copies b x y) f) gs pre (ws ++ placed i (aLiteral b x y) ∷ []) t st (frame-put fr literal) e)
-  sound d (placed i aStar ∷ ts) (begin a) gs pre ws t st fr e = never e
-  sound d (placed i aStar ∷ ts) (going a s u) gs pre ws t st fr e = moved-on pre ws (placed i aStar) ts (sound d ts (going a s (star u)) gs pre (ws ++ placed i aStar ∷ []) t st (frame-star i fr) e)
-  sound d (placed i aBar ∷ ts) (begin a) gs pre ws t st fr e = never e
-  sound d (placed i aBar ∷ ts) (going a s u) gs pre ws t st fr e = moved-on pre ws (placed i aBar) ts (sound d ts (begin (some (value a s u))) gs pre (ws ++ placed i aBar ∷ []) t st (barred i (frame-value fr)) e)
-  sound zero (placed i anOpen ∷ ts) f gs pre ws t st fr e = never e
-  sound (suc d) (placed i anOpen ∷ ts) f gs pre ws t st fr e =
-      simp append-assoc at (sound d ts (begin none) (f ∷ gs) (pre ++ (ws ++ placed i anOpen ∷ [])) [] t (opened i st fr) fresh e)
-  sound d (placed i aClose ∷ ts) f [] pre ws t st fr e = never e
-  sound d (placed i aClose ∷ ts) (begin none) (g ∷ gs) pre ws t (opened o {pre = pre′} {ws = vs} st fg) fresh e =
-      closed (placed o anOpen) (placed i aClose) pre′ vs [] ts (sound (suc d) ts (put empty g) gs pre′ (vs ++ placed o anOpen ∷ placed i aClose ∷ []) t st (frame-put fg void) e)
-  sound d (placed i aClose ∷ ts) (begin (some r)) (g ∷ gs) pre ws t st fr e = never e
-  sound d (placed i aClose ∷ ts) (going a s u) (g ∷ gs) pre ws t (opened o {pre = pre′} {ws = vs} st fg) fr e =
-      closed (placed o anOpen) (placed i aClose) pre′ vs ws ts (sound (suc d) ts (put (value a s u) g) gs pre′ (vs ++ (placed o anOpen ∷ ws ++ placed i aClose ∷ [])) t st (frame-put fg (group i (frame-value fr))) e)
-  sound d (placed i (aFault k) ∷ ts) f gs pre ws t st fr e = never e
+  sound : (d : ℕ) (ts : List Placed) (f : Frame) (gs : List Frame) {pre ws : List Placed} {t : Tree ℕ} → StackIn D d gs pre → FrameIn d f ws → run len d ts f gs ≡ tree t
+      → Parses D alternation (pre ++ (ws ++ ts)) t
+  sound d [] (begin a) [] st fr e = never e
+  sound d [] (going a s u) [] {ws = ws} {t} bottom fr e = let h : value a s u ≡ t = cc in rw (append-nil ws, ← h) (frame-value fr)
+  sound d [] f (g ∷ gs) st fr e = never e
+  sound d (placed i (aLiteral b x y) ∷ ts) f gs {pre} {ws} st fr e = moved-on pre ws (placed i (aLiteral b x y)) ts (sound d ts _ gs st (frame-put fr literal) e)
+  sound d (placed i aStar ∷ ts) (begin a) gs st fr e = never e
+  sound d (placed i aStar ∷ ts) (going a s u) gs {pre} {ws} st fr e = moved-on pre ws (placed i aStar) ts (sound d ts _ gs st (frame-star i fr) e)
+  sound d (placed i aBar ∷ ts) (begin a) gs st fr e = never e
+  sound d (placed i aBar ∷ ts) (going a s u) gs {pre} {ws} st fr e = moved-on pre ws (placed i aBar) ts (sound d ts _ gs st (barred i (frame-value fr)) e)
+  sound zero (placed i anOpen ∷ ts) f gs st fr e = never e
+  sound (suc d) (placed i anOpen ∷ ts) f gs st fr e = simp append-assoc at (sound d ts (begin none) (f ∷ gs) (opened i st fr) fresh e)
+  sound d (placed i aClose ∷ ts) f [] st fr e = never e
+  sound d (placed i aClose ∷ ts) (begin none) (g ∷ gs) (opened o {pre = pre} {ws = vs} st fg) fresh e =
+      closed (placed o anOpen) (placed i aClose) pre vs [] ts (sound (suc d) ts _ gs st (frame-put fg void) e)
+  sound d (placed i aClose ∷ ts) (begin (some r)) (g ∷ gs) st fr e = never e
+  sound d (placed i aClose ∷ ts) (going a s u) (g ∷ gs) {ws = ws} (opened o {pre = pre} {ws = vs} st fg) fr e =
+      closed (placed o anOpen) (placed i aClose) pre vs ws ts (sound (suc d) ts _ gs st (frame-put fg (group i (frame-value fr))) e)
+  sound d (placed i (aFault k) ∷ ts) f gs st fr e = never e
 
 -- the walk finds a tree exactly if the grammar has it
 pub parse-iff : (text : List ℕ) (t : Tree ℕ) → (parse text ≡ tree t) ↔ TreeOfText text t
-parse-iff text t = (λ e. sound (length text) openLimit openLimit (tokensFrom text 0) (begin none) [] [] [] t bottom fresh e, parsed (length text) openLimit (tokensFrom text 0) t)
+parse-iff text t = (λ e. sound (length text) openLimit openLimit (tokensFrom text 0) (begin none) [] bottom fresh e, parsed (length text) openLimit (tokensFrom text 0) t)

@@ -25,7 +25,7 @@ use Rattle.text.proofs.Parsing.{starred-put}
 use Rattle.text.proofs.Copies.{repeat-nodes, repeat-leaves}
 
 -- A UNIT
-module _ (t : List ℕ) (d at n l : ℕ) (xs ys bs cs : List ℕ) where
+module _ {t : List ℕ} {d at n l : ℕ} {xs ys bs cs : List ℕ} where
   pub part-plain : plainAt (drop at t) ≡ true → ys ≡ set xs n 0 → cs ≡ set bs l (getD t at 0) → Part t d at (out n xs l bs) (at + 1) (out (n + 1) ys (l + 1) cs)
   part-plain e w v = record {
     made = leaf (getD t at 0);
@@ -33,46 +33,51 @@ module _ (t : List ℕ) (d at n l : ℕ) (xs ys bs cs : List ℕ) where
     walk = λ f gs. rw (tokens-plain t at e) refl;
   }
 
-  pub part-literal : (b x y next m k : ℕ) → Taken t at b x y next → Wrote n xs m ys (repeatNodes x y) → Wrote l bs k cs (replicate y b)
+  pub part-literal : {b x y next m k : ℕ} → Taken t at b x y next → Wrote n xs m ys (repeatNodes x y) → Wrote l bs k cs (replicate y b)
       → Part t d at (out n xs l bs) next (out m ys k cs)
-  part-literal b x y next m k g w v = record {
+  part-literal {b} {x} {y} g w v = record {
     made = copies b x y;
     stored = record { nodes = wrote-as (repeat-nodes b x y (g .least)) w; lits = wrote-as (repeat-leaves b x y (g .least)) v };
     walk = λ f gs. rw (g .token) refl;
   }
 
-  module _ (e : ℕ) (q : d ≡ suc e) (o : starts (drop at t) leftParenthesis ≡ true) where
-    pub part-void : starts (drop (at + 1) t) rightParenthesis ≡ true → ys ≡ set xs n 1 → Part t d at (out n xs l bs) (at + 2) (out (n + 1) ys l bs)
-    part-void c w =
-        let z : at + 1 + 1 ≡ at + 2 = omega arith in
-        let g : tokensFrom t (at + 1) ≡ placed (at + 1) aClose ∷ tokensFrom t (at + 2) = rw z at (tokens-close t (at + 1) c) in
-        record {
-          made = empty;
-          stored = record { nodes = wrote-one n xs ys 1 w; lits = wrote-none l bs };
-          walk = λ f gs. rw (tokens-open t at o, g, q) refl;
-        }
+-- a parenthesis opens here, and e more may be opened in it
+pub record Opens (t : List ℕ) (d e at : ℕ) : Type 0 where
+  pub deeper : d ≡ suc e
+  pub bracket : starts (drop at t) leftParenthesis ≡ true
 
-module _ (t : List ℕ) (d at : ℕ) (i : Out) (e : ℕ) (q : d ≡ suc e) (o : starts (drop at t) leftParenthesis ≡ true) where
+module _ {t : List ℕ} {d e at : ℕ} (o : Opens t d e at) where
+  pub part-void : {n l : ℕ} {xs ys bs : List ℕ} → starts (drop (at + 1) t) rightParenthesis ≡ true → ys ≡ set xs n 1
+      → Part t d at (out n xs l bs) (at + 2) (out (n + 1) ys l bs)
+  part-void {n} {l} {xs} {ys} {bs} c w =
+      let z : at + 1 + 1 ≡ at + 2 = omega arith in
+      let g : tokensFrom t (at + 1) ≡ placed (at + 1) aClose ∷ tokensFrom t (at + 2) = rw z at (tokens-close t (at + 1) c) in
+      record {
+        made = empty;
+        stored = record { nodes = wrote-one n xs ys 1 w; lits = wrote-none l bs };
+        walk = λ f gs. rw (tokens-open t at (o .bracket), g, o .deeper) refl;
+      }
+
   pub fails-group : starts (drop (at + 1) t) rightParenthesis ≡ false → (k : Refusal) → ((gs : List Frame) → Ends t e (at + 1) k (begin none) gs) → Fails t d at k
-  fails-group n k h f gs r c = rw (tokens-open t at o, q) (h (f ∷ gs) n (omega arith))
+  fails-group n k h f gs r c = rw (tokens-open t at (o .bracket), o .deeper) (h (f ∷ gs) n (omega (arith, o .deeper)))
 
-  module _ (next : ℕ) (p : Out) (w : AltPart t e (at + 1) i next p) where
+  module _ {i : Out} {next : ℕ} {p : Out} (w : AltPart t e (at + 1) i next p) where
     pub part-group : starts (drop next t) rightParenthesis ≡ true → Part t d at i (next + 1) p
     part-group c = record {
       made = value (w .a) (w .s) (w .u);
       stored = w .stored;
-      walk = λ f gs. rw (tokens-open t at o, q) (w .walk (f ∷ gs) ∙ rw (tokens-close t next c) refl);
+      walk = λ f gs. rw (tokens-open t at (o .bracket), o .deeper) (w .walk (f ∷ gs) ∙ rw (tokens-close t next c) refl);
     }
 
     pub fails-unclosed : next ≤ length t → length t ≤ next → Fails t d at (record { number = leftOpen; place = next })
     fails-unclosed h g f gs r c =
         let z : length t ≡ next = omega arith in
-        rw (tokens-open t at o, q) (w .walk (f ∷ gs) ∙ rw (tokens-end t next g, z) refl)
+        rw (tokens-open t at (o .bracket), o .deeper) (w .walk (f ∷ gs) ∙ rw (tokens-end t next g, z) refl)
 
 -- a star after it
-pub part-star : (t : List ℕ) (d at : ℕ) (o : Out) (i m : ℕ) (ys : List ℕ) (l : ℕ) (bs zs : List ℕ)
+pub part-star : {t : List ℕ} {d at : ℕ} {o : Out} {i m l : ℕ} {ys bs zs : List ℕ}
     → Part t d at o i (out m ys l bs) → starts (drop i t) asterisk ≡ true → zs ≡ set ys m 4 → Part t d at o (i + 1) (out (m + 1) zs l bs)
-part-star t d at o i m ys l bs zs p e w = record {
+part-star {t} {d} {i = i} {m} {ys = ys} {zs = zs} p e w = record {
   made = star (p .made);
   stored = record { nodes = wrote-both (p .stored .nodes) (wrote-one m ys zs 4 w); lits = p .stored .lits };
   walk = λ f gs. p .walk f gs ∙ rw (tokens-star t i e) (starred-put (length t) d i (p .made) (tokensFrom t (i + 1)) f gs);
@@ -104,11 +109,12 @@ joined-letters f h none t = refl
 joined-letters f h (some r) t = sym (h r t)
 
 -- a part more, and the operator if something stood before
-joined : (f : Tree ℕ → Tree ℕ → Tree ℕ) (k : ℕ) → ((r t : Tree ℕ) → postorder (f r t) ≡ postorder r ++ postorder t ++ k ∷ []) → ((r t : Tree ℕ) → leaves (f r t) ≡ leaves r ++ leaves t)
-    → {o p : Out} {m i : ℕ} {ys ws : List ℕ} {j : ℕ} {cs : List ℕ} (again : Bool) (before : Option (Tree ℕ)) (t : Tree ℕ) → again ≡ isSome before
+joined : (f : Tree ℕ → Tree ℕ → Tree ℕ) (k : ℕ) → ((r t : Tree ℕ) → postorder (f r t) ≡ postorder r ++ postorder t ++ k ∷ [])
+    → ((r t : Tree ℕ) → leaves (f r t) ≡ leaves r ++ leaves t)
+    → {o p : Out} {m i : ℕ} {ys ws : List ℕ} {j : ℕ} {cs : List ℕ} {again : Bool} (before : Option (Tree ℕ)) (t : Tree ℕ) → again ≡ isSome before
     → Stored o p (nodesOf before) (lettersOf before) → Stored p (out m ys j cs) (postorder t) (leaves t) → Wrote m ys i ws (opIf again k)
     → Stored o (out i ws j cs) (postorder (after f before t)) (leaves (after f before t))
-joined f k h g again before t e a b c = record {
+joined f k h g before t e a b c = record {
   nodes = wrote-as (rw e (joined-nodes f k h before t)) (wrote-both (wrote-both (a .nodes) (b .nodes)) c);
   lits = wrote-as (joined-letters f g before t) (wrote-both (a .lits) (b .lits));
 }
@@ -124,7 +130,7 @@ pub record SeqSoFar (again : Bool) (t : List ℕ) (d at : ℕ) (o : Out) (next :
   pub walk : (a : Option (Tree ℕ)) (gs : List Frame) → go t d at (begin a) gs ≡ go t d next (frame a) gs
   pub ready : (a : Option (Tree ℕ)) (gs : List Frame) → Ready (begin a) gs (drop at t) → Ready (frame a) gs (drop next t)
 
-module _ (t : List ℕ) (d at : ℕ) (o : Out) where
+module _ {t : List ℕ} {d at : ℕ} {o : Out} where
   pub seq-starts : SeqSoFar false t d at o at o
   seq-starts = record {
     before = none;
@@ -136,21 +142,20 @@ module _ (t : List ℕ) (d at : ℕ) (o : Out) where
     ready = λ a gs r. r;
   }
 
-  module _ (again : Bool) (next : ℕ) (p : Out) (w : SeqSoFar again t d at o next p) where
-    pub seq-unit : (last m : ℕ) (ys : List ℕ) (j : ℕ) (cs : List ℕ) (i : ℕ) (ws : List ℕ) → Part t d next p last (out m ys j cs) → Wrote m ys i ws (opIf again 2)
-        → SeqPart t d at o last (out i ws j cs)
-    seq-unit last m ys j cs i ws v e = record {
+  module _ {again : Bool} {next : ℕ} {p : Out} (w : SeqSoFar again t d at o next p) where
+    pub seq-unit : {last m i j : ℕ} {ys ws cs : List ℕ} → Part t d next p last (out m ys j cs) → Wrote m ys i ws (opIf again 2) → SeqPart t d at o last (out i ws j cs)
+    seq-unit {last} v e = record {
       s = w .before;
       u = v .made;
-      stored = joined cat 2 (λ r t. refl) (λ r t. refl) again (w .before) (v .made) (w .flag) (w .stored) (v .stored) e;
+      stored = joined cat 2 (λ r t. refl) (λ r t. refl) (w .before) (v .made) (w .flag) (w .stored) (v .stored) e;
       walk = λ a gs. w .walk a gs ∙ v .walk (w .frame a) gs ∙ ap (λ (f : Frame). go t d last f gs) (w .puts a (v .made));
     }
 
     pub seq-fails : (k : Refusal) → Fails t d next k → (a : Option (Tree ℕ)) (gs : List Frame) → Ends t d at k (begin a) gs
     seq-fails k h a gs r c = w .walk a gs ∙ h (w .frame a) gs (w .ready a gs r) c
 
-  pub seq-goes-on : (next : ℕ) (p : Out) → SeqPart t d at o next p → unitAt (drop next t) ≡ true → SeqSoFar true t d at o next p
-  seq-goes-on next p w u = record {
+  pub seq-goes-on : {next : ℕ} {p : Out} → SeqPart t d at o next p → unitAt (drop next t) ≡ true → SeqSoFar true t d at o next p
+  seq-goes-on w u = record {
     before = some (after cat (w .s) (w .u));
     frame = λ a. going a (w .s) (w .u);
     flag = refl;
@@ -169,7 +174,7 @@ pub record AltSoFar (again : Bool) (t : List ℕ) (d at : ℕ) (o : Out) (next :
   pub walk : (gs : List Frame) → go t d at (begin none) gs ≡ go t d next (begin before) gs
   pub ready : (gs : List Frame) → Ready (begin none) gs (drop at t) → Ready (begin before) gs (drop next t)
 
-module _ (t : List ℕ) (d at : ℕ) (o : Out) where
+module _ {t : List ℕ} {d at : ℕ} {o : Out} where
   pub alt-starts : AltSoFar false t d at o at o
   alt-starts = record {
     before = none;
@@ -179,22 +184,21 @@ module _ (t : List ℕ) (d at : ℕ) (o : Out) where
     ready = λ gs r. r;
   }
 
-  module _ (again : Bool) (next : ℕ) (p : Out) (w : AltSoFar again t d at o next p) where
-    pub alt-sequence : (last m : ℕ) (ys : List ℕ) (j : ℕ) (cs : List ℕ) (i : ℕ) (ws : List ℕ) → SeqPart t d next p last (out m ys j cs) → Wrote m ys i ws (opIf again 3)
-        → AltPart t d at o last (out i ws j cs)
-    alt-sequence last m ys j cs i ws v e = record {
+  module _ {again : Bool} {next : ℕ} {p : Out} (w : AltSoFar again t d at o next p) where
+    pub alt-sequence : {last m i j : ℕ} {ys ws cs : List ℕ} → SeqPart t d next p last (out m ys j cs) → Wrote m ys i ws (opIf again 3) → AltPart t d at o last (out i ws j cs)
+    alt-sequence v e = record {
       a = w .before;
       s = v .s;
       u = v .u;
-      stored = joined alt 3 (λ r t. refl) (λ r t. refl) again (w .before) (after cat (v .s) (v .u)) (w .flag) (w .stored) (v .stored) e;
+      stored = joined alt 3 (λ r t. refl) (λ r t. refl) (w .before) (after cat (v .s) (v .u)) (w .flag) (w .stored) (v .stored) e;
       walk = λ gs. w .walk gs ∙ v .walk (w .before) gs;
     }
 
     pub alt-fails : (k : Refusal) → ((a : Option (Tree ℕ)) (gs : List Frame) → Ends t d next k (begin a) gs) → (gs : List Frame) → Ends t d at k (begin none) gs
     alt-fails k h gs r c = w .walk gs ∙ h (w .before) gs (w .ready gs r) c
 
-  pub alt-goes-on : (next : ℕ) (p : Out) → AltPart t d at o next p → starts (drop next t) bar ≡ true → AltSoFar true t d at o (next + 1) p
-  alt-goes-on next p w e = record {
+  pub alt-goes-on : {next : ℕ} {p : Out} → AltPart t d at o next p → starts (drop next t) bar ≡ true → AltSoFar true t d at o (next + 1) p
+  alt-goes-on {next} w e = record {
     before = some (value (w .a) (w .s) (w .u));
     flag = refl;
     stored = w .stored;
@@ -203,7 +207,7 @@ module _ (t : List ℕ) (d at : ℕ) (o : Out) where
   }
 
 -- A WHOLE TEXT
-module _ (t xs ys bs cs : List ℕ) (next m k : ℕ) (w : AltPart t openLimit 0 (out 0 xs 0 bs) next (out m ys k cs)) where
+module _ {t xs ys bs cs : List ℕ} {next m k : ℕ} (w : AltPart t openLimit 0 (out 0 xs 0 bs) next (out m ys k cs)) where
   pub whole : length t ≤ next → Whole t xs ys bs cs m k
   whole h = record {
     made = value (w .a) (w .s) (w .u);

@@ -34,20 +34,23 @@ add-t10 c = search needs
 
 returns : tie.Need-returns
 returns c =
-    let digit-at2 = c .before .before .digit-at2 in
-    let digit = c .before .before .before .digit in
-    let if1 = c .before .before .before .before .if1 in
-    let digit-at = c .before .before .before .before .before .digit-at in
     let args = c .before .before .before .before .before .before .before .args in
-    (figure-two (args .text .now) (args .at) (digit .result) ((c .digit2) .result) (sym (digit-at .ensures) ∙ if1 .taken) (sym (digit-at2 .ensures) ∙ (c .before .if2) .taken) (digit .ensures .0) ((c .digit2) .ensures .0), (omega (arith, digit .ensures .1, (c .digit2) .ensures .1), omega arith, omega (arith, front-inside digitAt (args .text .now) ((args .at) + 1) refl (sym (digit-at2 .ensures) ∙ (c .before .if2) .taken))))
+    let ten = c .before .before .before .digit in
+    let d = sym (c .before .before .before .before .before .digit-at .ensures) ∙ c .before .before .before .before .if1 .taken in
+    let e = sym (c .before .before .digit-at2 .ensures) ∙ c .before .if2 .taken in (
+      figure-two (args .text .now) (args .at) (ten .result) (c .digit2 .result) d e (ten .ensures .0) (c .digit2 .ensures .0),
+      (omega (arith, ten .ensures .1, c .digit2 .ensures .1), omega arith, omega (arith, front-inside digitAt (args .text .now) (args .at + 1) refl e)),
+    )
 
 returns-2 : tie.Need-returns-2
 returns-2 c =
-    let digit = c .before .before .digit in
-    let if1 = c .before .before .before .if1 in
-    let digit-at = c .before .before .before .before .digit-at in
     let args = c .before .before .before .before .before .before .args in
-    (figure-one (args .text .now) (args .at) (digit .result) (sym (digit-at .ensures) ∙ if1 .taken) (sym ((c .before .digit-at2) .ensures) ∙ (c .if2) .left) (digit .ensures .0), (omega (arith, digit .ensures .1), omega arith, omega (arith, front-inside digitAt (args .text .now) (args .at) refl (sym (digit-at .ensures) ∙ if1 .taken))))
+    let digit = c .before .before .digit in
+    let d = sym (c .before .before .before .before .digit-at .ensures) ∙ c .before .before .before .if1 .taken in
+    let e = sym (c .before .digit-at2 .ensures) ∙ c .if2 .left in (
+      figure-one (args .text .now) (args .at) (digit .result) d e (digit .ensures .0),
+      (omega (arith, digit .ensures .1), omega arith, omega (arith, front-inside digitAt (args .text .now) (args .at) refl d)),
+    )
 
 returns-3 : tie.Need-returns-3
 returns-3 c =

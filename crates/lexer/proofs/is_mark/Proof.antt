@@ -23,7 +23,8 @@ returns-4 c =
     let if2 = c .before .before .if2 in
     let if1 = c .before .before .before .if1 in
     let args = c .before .before .before .before .args in
-    rw (ne-eqb (args .b) bar (if1 .left), ne-eqb (args .b) asterisk (if2 .left), ne-eqb (args .b) leftParenthesis ((c .before .if3) .left), eq-eqb (args .b) rightParenthesis ((c .if4) .taken)) refl
+    rw (ne-eqb (args .b) bar (if1 .left), ne-eqb (args .b) asterisk (if2 .left), ne-eqb (args .b) leftParenthesis ((c .before .if3) .left))
+    (rw (eq-eqb (args .b) rightParenthesis ((c .if4) .taken)) refl)
 
 returns-5 : tie.Need-returns-5
 returns-5 c =
@@ -31,7 +32,8 @@ returns-5 c =
     let if2 = c .before .before .before .if2 in
     let if1 = c .before .before .before .before .if1 in
     let args = c .before .before .before .before .before .args in
-    rw (ne-eqb (args .b) bar (if1 .left), ne-eqb (args .b) asterisk (if2 .left), ne-eqb (args .b) leftParenthesis (if3 .left), ne-eqb (args .b) rightParenthesis ((c .before .if4) .left), eq-eqb (args .b) backslash ((c .if5) .taken)) refl
+    rw (ne-eqb (args .b) bar (if1 .left), ne-eqb (args .b) asterisk (if2 .left), ne-eqb (args .b) leftParenthesis (if3 .left))
+    (rw (ne-eqb (args .b) rightParenthesis ((c .before .if4) .left), eq-eqb (args .b) backslash ((c .if5) .taken)) refl)
 
 returns-6 : tie.Need-returns-6
 returns-6 c =
@@ -40,7 +42,8 @@ returns-6 c =
     let if2 = c .before .before .before .before .if2 in
     let if1 = c .before .before .before .before .before .if1 in
     let args = c .before .before .before .before .before .before .args in
-    rw (ne-eqb (args .b) bar (if1 .left), ne-eqb (args .b) asterisk (if2 .left), ne-eqb (args .b) leftParenthesis (if3 .left), ne-eqb (args .b) rightParenthesis (if4 .left), ne-eqb (args .b) backslash ((c .before .if5) .left), eq-eqb (args .b) leftBrace ((c .if6) .taken)) refl
+    rw (ne-eqb (args .b) bar (if1 .left), ne-eqb (args .b) asterisk (if2 .left), ne-eqb (args .b) leftParenthesis (if3 .left))
+    (rw (ne-eqb (args .b) rightParenthesis (if4 .left), ne-eqb (args .b) backslash ((c .before .if5) .left), eq-eqb (args .b) leftBrace ((c .if6) .taken)) refl)
 
 returns-7 : tie.Need-returns-7
 returns-7 c =
@@ -49,7 +52,8 @@ returns-7 c =
     let if2 = c .before .before .before .before .if2 in
     let if1 = c .before .before .before .before .before .if1 in
     let args = c .before .before .before .before .before .before .args in
-    rw (ne-eqb (args .b) bar (if1 .left), ne-eqb (args .b) asterisk (if2 .left), ne-eqb (args .b) leftParenthesis (if3 .left), ne-eqb (args .b) rightParenthesis (if4 .left), ne-eqb (args .b) backslash ((c .before .if5) .left), ne-eqb (args .b) leftBrace ((c .if6) .left)) refl
+    rw (ne-eqb (args .b) bar (if1 .left), ne-eqb (args .b) asterisk (if2 .left), ne-eqb (args .b) leftParenthesis (if3 .left))
+    (rw (ne-eqb (args .b) rightParenthesis (if4 .left), ne-eqb (args .b) backslash ((c .before .if5) .left), ne-eqb (args .b) leftBrace ((c .if6) .left)) refl)
 
 pub is-mark-spec : {M : Type 1} → statement M
 is-mark-spec =

@@ -131,7 +131,8 @@ returns-7 c =
     let if1 = c .before .before .before .before .before .if1 in
     let args = c .before .before .before .before .before .before .before .before .args in
     let pre = c .before .before .before .before .before .before .before .before .pre in
-    literal-plain (args .text .now) (args .at) (pre .1) (pre .2) (if1 .left) (if3 .left) (if4 .left) (if5 .left) ((c .repeated2) .result) ((c .before .if6) .left) ((c .repeated2) .ensures .0) ((c .repeated2) .ensures .1)
+    literal-plain (args .text .now) (args .at) (pre .1) (pre .2) (if1 .left) (if3 .left) (if4 .left) (if5 .left) (c .repeated2 .result)
+    (c .before .if6 .left) ((c .repeated2) .ensures .0) ((c .repeated2) .ensures .1)
 
 pub literal-at-spec : {M : Type 1} → statement M
 literal-at-spec =

@@ -16,11 +16,9 @@ same-length c = search needs
 returns : tie.Need-returns
 returns c =
     let refuse = c .before .before .refuse in
-    let passing-place = c .before .before .before .before .passing-place in
-    let if1 = c .before .before .before .before .before .if1 in
-    let args = c .before .before .before .before .before .before .before .before .before .before .args in
-    let pre = c .before .before .before .before .before .before .before .before .before .before .pre in
-    λ xs bs v. call-leaves (args .text .now) (args .sheet .now) xs (args .nodes .now) bs (args .lits .now) (args .m) (args .l) (pre .0) v (refuse .result) (refuse .last .0) (passing-place .result) (if1 .taken) (passing-place .ensures) (refuse .ensures .0) (refuse .ensures .1)
+    let here = c .before .before .before .before in
+    let many = here .before in
+    λ xs bs v. call-leaves (many .before .before .before .before .before .pre .0) v (many .if1 .taken) (here .passing-place .ensures) (refuse .ensures .0) (refuse .ensures .1)
 
 refuse-requires-2 : tie.Need-refuse-requires-2
 refuse-requires-2 c κs = search needs
@@ -30,12 +28,10 @@ same-length-2 c = search needs
 
 returns-2 : tie.Need-returns-2
 returns-2 c =
-    let refuse2 = c .before .before .refuse2 in
-    let if2 = c .before .before .before .before .if2 in
-    let if1 = c .before .before .before .before .before .if1 in
-    let args = c .before .before .before .before .before .before .before .before .before .before .args in
-    let pre = c .before .before .before .before .before .before .before .before .before .before .pre in
-    λ xs bs v. call-nodes (args .text .now) (args .sheet .now) xs (args .nodes .now) bs (args .lits .now) (args .m) (args .l) (pre .0) v (if1 .left) (refuse2 .result) (refuse2 .last .0) (if2 .taken) (refuse2 .ensures .0) (refuse2 .ensures .1)
+    let refuse = c .before .before .refuse2 in
+    let many = c .before .before .before .before in
+    let few = many .before in
+    λ xs bs v. call-nodes (few .before .before .before .before .before .pre .0) v (few .if1 .left) (many .if2 .taken) (refuse .ensures .0) (refuse .ensures .1)
 
 add-needed : tie.Need-add-needed
 add-needed c = search needs
@@ -51,33 +47,27 @@ same-length-3 c = search needs
 
 returns-3 : tie.Need-returns-3
 returns-3 c =
-    let refuse3 = c .before .before .refuse3 in
-    let if3 = c .before .before .before .before .if3 in
-    let if2 = c .before .before .before .before .before .if2 in
-    let if1 = c .before .before .before .before .before .before .if1 in
-    let args = c .before .before .before .before .before .before .before .before .before .before .before .args in
-    let pre = c .before .before .before .before .before .before .before .before .before .before .before .pre in
-    λ xs bs v. call-short (args .text .now) (args .sheet .now) xs (args .nodes .now) bs (args .lits .now) (args .m) (args .l) (pre .0) v (if1 .left) (if2 .left) (refuse3 .result) (refuse3 .last .0) (if3 .taken) (refuse3 .ensures .0) (refuse3 .ensures .1)
+    let refuse = c .before .before .refuse3 in
+    let short = c .before .before .before .before in
+    let few = short .before .before in
+    λ xs bs v. call-short (few .before .before .before .before .before .pre .0) v (few .if1 .left) (short .before .if2 .left) (short .if3 .taken) (refuse .ensures .0) (refuse .ensures .1)
 
 lay-requires : tie.Need-lay-requires
 lay-requires c κs =
-    let if2 = c .before .before .if2 in
-    let if1 = c .before .before .before .if1 in
+    let few = c .before .before .before .if1 .left in
+    let small = c .before .before .if2 .left in
     let pre = c .before .before .before .before .before .before .before .before .pre in
-    (omega (arith, pre .1, if1 .left), if1 .left, omega (arith, pre .2, if2 .left), if2 .left, (c .before .if3) .left)
+    (omega (arith, pre .1, few), few, omega (arith, pre .2, small), small, c .before .if3 .left)
 
 same-length-4 : tie.Need-same-length-4
 same-length-4 c = search needs
 
 returns-4 : tie.Need-returns-4
 returns-4 c =
-    let lay = c .before .before .lay in
-    let if3 = c .before .before .before .before .if3 in
-    let if2 = c .before .before .before .before .before .if2 in
-    let if1 = c .before .before .before .before .before .before .if1 in
-    let args = c .before .before .before .before .before .before .before .before .before .before .before .args in
-    let pre = c .before .before .before .before .before .before .before .before .before .before .before .pre in
-    λ xs bs v. call-made (args .text .now) (args .sheet .now) xs (args .nodes .now) bs (args .lits .now) (args .m) (args .l) (pre .0) v (if1 .left) (if2 .left) (lay .last .0) (pre .1) (pre .2) (if3 .left) (lay .ensures)
+    let fits = c .before .before .before .before in
+    let few = fits .before .before in
+    let pre = few .before .before .before .before .before .pre in
+    λ xs bs v. call-made (pre .0) v (few .if1 .left) (fits .before .if2 .left) (pre .1) (pre .2) (fits .if3 .left) (c .before .before .lay .ensures)
 
 pub answer-spec : {M : Type 1} → statement M
 answer-spec =

@@ -1,10 +1,11 @@
 use Prim.Native.Nat.{_≤_, _-_}
 use borrow.Author.Needs.{needs}
 use lib.ListN.{length}
-use mathlib.Core.Path.{refl, _≡_}
+use mathlib.Core.Path.{refl, ap, sym, _∙_, _≡_}
 use native.Mathlib.Omega.{arith}
 use Rattle.lexer.specs.Tokens.{tokensFrom}
-use Rattle.maker.proofs.Walks.{walk-wrong, step-on, walk-on, walk-end}
+use Rattle.maker.specs.Steps.{Stepped}
+use Rattle.maker.proofs.Walks.{walk-on, walk-end}
 use Rattle.text.specs.Refusals.{lexical}
 use Rattle.maker.proofs.first_walk.Statement.{statement}
 use Rattle.maker.proofs.first_walk.Tie as tie
@@ -14,8 +15,13 @@ Inv-loop text i₀ i =
     (lexical (tokensFrom text i) ≡ lexical (tokensFrom text 0)) × (i ≤ length text)
 
 abbrev μ-loop : tie.MeasureT-loop
-μ-loop text i₀ i =
-    length text - i
+μ-loop text i₀ i = length text - i
+
+stepped :
+    (c : tie.After-s Inv-loop μ-loop) →
+    let head = c .before .before .before .before in
+    Stepped (head .before .before .args .text .now) (head .loop .i) (c .s .given .0 .0) (c .s .given .0 .1 .0)
+stepped c = rw (c .s .given .1) at (c .before .before .step-over .ensures)
 
 loop-holds : tie.Need-loop-holds Inv-loop μ-loop
 loop-holds c = (refl, omega arith)
@@ -31,29 +37,19 @@ enum-told c = search needs
 
 returns : tie.Need-returns Inv-loop μ-loop
 returns c =
-    let step-over = c .before .before .step-over in
-    let loop = c .before .before .before .before .loop in
-    let args = c .before .before .before .before .before .before .args in
-    walk-wrong (args .text .now) (loop .i) (step-over .result) ((c .enum-told) .given .0 .0) ((c .enum-told) .given .1) (step-over .ensures) (loop .inv .0)
+    let told = c .enum-told .given in
+    rw (told .1) (sym (c .before .before .before .before .loop .inv .0) ∙ ap lexical (rw (told .1) at (c .before .before .step-over .ensures)))
 
 loop-less : tie.Need-loop-less Inv-loop μ-loop
-loop-less c =
-    let step-over = c .before .before .before .step-over in
-    let loop = c .before .before .before .before .before .loop in
-    let args = c .before .before .before .before .before .before .before .args in
-    let v = step-on (args .text .now) (loop .i) (step-over .result) (step-over .ensures) ((c .before .s) .given .0 .0) ((c .before .s) .given .0 .1 .0) ((c .before .s) .given .1) in omega (arith, v .further, v .inside)
+loop-less c = let s = stepped (c .before) in omega (arith, s .further, s .inside)
 
 loop-again : tie.Need-loop-again Inv-loop μ-loop
-loop-again c =
-    let step-over = c .before .before .before .step-over in
-    let loop = c .before .before .before .before .before .loop in
-    let args = c .before .before .before .before .before .before .before .args in
-    let v = step-on (args .text .now) (loop .i) (step-over .result) (step-over .ensures) ((c .before .s) .given .0 .0) ((c .before .s) .given .0 .1 .0) ((c .before .s) .given .1) in (walk-on (args .text .now) (loop .i) ((c .before .s) .given .0 .0) ((c .before .s) .given .0 .1 .0) v (loop .inv .0), v .inside)
+loop-again c = let s = stepped (c .before) in (walk-on s (c .before .before .before .before .before .loop .inv .0), s .inside)
 
 returns-2 : tie.Need-returns-2 Inv-loop μ-loop
 returns-2 c =
-    let args = c .before .before .before .args in
-    walk-end (args .text .now) ((c .before .loop) .i) (omega (arith, (c .loop-test) .left)) ((c .before .loop) .inv .0)
+    let loop = c .before .loop in
+    walk-end (c .before .before .before .args .text .now) (loop .i) (omega (arith, c .loop-test .left)) (loop .inv .0)
 
 pub first-walk-spec : {M : Type 1} → statement M
 first-walk-spec =

@@ -1,11 +1,19 @@
 use borrow.Author.Needs.{needs}
 use lib.ListN.{replicate}
 use Rattle.maker.proofs.Call.{call-refused, refusal-long}
-use Rattle.rules.specs.Limits.{textLimit, nodeLimit, leafLimit}
-use Rattle.rules.specs.Numbers.{longText}
-use Rattle.text.proofs.Readers.{text-refused, text-read}
+use Rattle.rules.specs.Limits.{nodeLimit, leafLimit}
+use Rattle.text.specs.declared.Read.the-variants.{Done}
+use Rattle.text.specs.Reads.{TextRead}
 use Rattle.maker.proofs.make.Statement.{statement}
 use Rattle.maker.proofs.make.Tie as tie
+
+-- the text was read
+read :
+    (c : tie.After-r2) →
+    let last = c .before .before .before .before .read-text .last in
+    TextRead (c .before .before .before .before .before .before .before .before .before .before .args .text .now) (replicate nodeLimit 0) (last .1 .0) (replicate leafLimit 0) (last .1 .1 .0)
+    (Done (c .r2 .given .0 .0) (c .r2 .given .0 .1 .0) (c .r2 .given .0 .1 .1 .0))
+read c = rw (c .r2 .given .1) at (c .before .before .before .before .read-text .ensures)
 
 refuse-requires : tie.Need-refuse-requires
 refuse-requires c κs = search needs
@@ -16,9 +24,8 @@ same-length c = search needs
 returns : tie.Need-returns
 returns c =
     let refuse = c .before .before .refuse in
-    let if1 = c .before .before .before .before .if1 in
-    let args = c .before .before .before .before .before .before .before .args in
-    call-refused (args .text .now) (args .sheet .now) (refuse .result) (refuse .last .0) (record { number = longText; place = textLimit }) (refusal-long (args .text .now) (if1 .taken)) (refuse .ensures .0) (refuse .ensures .1)
+    let long = c .before .before .before .before in
+    call-refused (refusal-long (long .before .before .before .args .text .now) (long .if1 .taken)) (refuse .ensures .0) (refuse .ensures .1)
 
 slice-aggregate-read-text : tie.Need-slice-aggregate-read-text
 slice-aggregate-read-text c = search needs
@@ -40,11 +47,8 @@ same-length-2 c = search needs
 
 returns-2 : tie.Need-returns-2
 returns-2 c =
-    let refuse-first = c .before .before .refuse-first in
-    let r = c .before .before .before .before .before .r in
-    let read-text = c .before .before .before .before .before .before .before .before .before .read-text in
-    let args = c .before .before .before .before .before .before .before .before .before .before .before .before .before .before .before .args in
-    refuse-first .ensures (text-refused (args .text .now) (replicate nodeLimit 0) (read-text .last .1 .0) (replicate leafLimit 0) (read-text .last .1 .1 .0) (read-text .result) (read-text .ensures) (r .given .0 .0) (r .given .1))
+    let told = c .before .before .before .before .before in
+    c .before .before .refuse-first .ensures (rw (told .r .given .1) at (told .before .before .before .before .read-text .ensures))
 
 enum-known-r-2 : tie.Need-enum-known-r-2
 enum-known-r-2 c = search needs
@@ -57,22 +61,14 @@ slice-aggregate-answer-2 c = search needs
 
 answer-requires : tie.Need-answer-requires
 answer-requires c κs =
-    let r2 = c .before .before .before .before .r2 in
-    let read-text = c .before .before .before .before .before .before .before .before .read-text in
-    let if1 = c .before .before .before .before .before .before .before .before .before .before .before .if1 in
-    let args = c .before .before .before .before .before .before .before .before .before .before .before .before .before .before .args in
-    let v = text-read (args .text .now) (replicate nodeLimit 0) (read-text .last .1 .0) (replicate leafLimit 0) (read-text .last .1 .1 .0) (read-text .result) (read-text .ensures) (r2 .given .0 .0) (r2 .given .0 .1 .0) (r2 .given .0 .1 .1 .0) (r2 .given .1) in (if1 .left, search needs, search needs, v .3, v .2)
+    let told = c .before .before .before .before in
+    (told .before .before .before .before .before .before .before .if1 .left, search needs, search needs, read told .3, read told .2)
 
 same-length-3 : tie.Need-same-length-3
 same-length-3 c = search needs
 
 returns-3 : tie.Need-returns-3
-returns-3 c =
-    let answer = c .before .before .answer in
-    let r2 = c .before .before .before .before .before .before .before .r2 in
-    let read-text = c .before .before .before .before .before .before .before .before .before .before .before .read-text in
-    let args = c .before .before .before .before .before .before .before .before .before .before .before .before .before .before .before .before .before .args in
-    answer .ensures (replicate nodeLimit 0) (replicate leafLimit 0) (text-read (args .text .now) (replicate nodeLimit 0) (read-text .last .1 .0) (replicate leafLimit 0) (read-text .last .1 .1 .0) (read-text .result) (read-text .ensures) (r2 .given .0 .0) (r2 .given .0 .1 .0) (r2 .given .0 .1 .1 .0) (r2 .given .1) .0)
+returns-3 c = c .before .before .answer .ensures (replicate nodeLimit 0) (replicate leafLimit 0) (read (c .before .before .before .before .before .before .before) .0)
 
 pub make-spec : {M : Type 1} → statement M
 make-spec =

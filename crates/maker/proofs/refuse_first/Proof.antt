@@ -18,11 +18,8 @@ same-length c = search needs
 returns : tie.Need-returns
 returns c =
     let refuse = c .before .before .refuse in
-    let s = c .before .before .before .before .before .s in
-    let first-walk = c .before .before .before .before .before .before .before .first-walk in
-    let args = c .before .before .before .before .before .before .before .before .before .before .args in
-    let pre = c .before .before .before .before .before .before .before .before .before .before .pre in
-    λ p. call-grammatical (args .text .now) (args .sheet .now) (refuse .result) (refuse .last .0) (pre) (first-walk .result) (first-walk .ensures) (refuse .ensures .1) (s .given .0 .0) (s .given .0 .1 .0) (s .given .1) (record { number = args .number; place = args .place }) (refuse .ensures .0) p
+    let told = c .before .before .before .before .before in
+    λ p. call-grammatical (told .before .before .before .before .before .pre) (told .before .before .first-walk .ensures) (told .s .given .1) p (refuse .ensures .0) (refuse .ensures .1)
 
 enum-known-s-2 : tie.Need-enum-known-s-2
 enum-known-s-2 c = search needs
@@ -35,12 +32,9 @@ same-length-2 c = search needs
 
 returns-2 : tie.Need-returns-2
 returns-2 c =
-    let refuse2 = c .before .before .refuse2 in
-    let s2 = c .before .before .before .before .before .s2 in
-    let first-walk = c .before .before .before .before .before .before .before .first-walk in
-    let args = c .before .before .before .before .before .before .before .before .before .before .args in
-    let pre = c .before .before .before .before .before .before .before .before .before .before .pre in
-    λ p. call-lexical (args .text .now) (args .sheet .now) (refuse2 .result) (refuse2 .last .0) (pre) (first-walk .result) (first-walk .ensures) (refuse2 .ensures .1) (s2 .given .0 .0) (s2 .given .1) (refuse2 .ensures .0)
+    let refuse = c .before .before .refuse2 in
+    let told = c .before .before .before .before .before in
+    λ p. call-lexical (told .before .before .before .before .before .pre) (told .before .before .first-walk .ensures) (told .s2 .given .1) (refuse .ensures .0) (refuse .ensures .1)
 
 pub refuse-first-spec : {M : Type 1} → statement M
 refuse-first-spec =

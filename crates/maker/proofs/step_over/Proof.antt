@@ -1,6 +1,5 @@
 use borrow.Author.Needs.{needs}
 use mathlib.Core.Path.{sym, _∙_}
-use Rattle.lexer.proofs.Units.{literal-fault, literal-taken}
 use Rattle.maker.proofs.Walks.{step-open, step-literal, step-mark}
 use Rattle.maker.proofs.step_over.Statement.{statement}
 use Rattle.maker.proofs.step_over.Tie as tie
@@ -21,28 +20,23 @@ unit-at-requires c κs = search needs
 
 literal-at-requires : tie.Need-literal-at-requires
 literal-at-requires c κs =
-    let if1 = c .before .before .if1 in
-    let is = c .before .before .before .is in
-    let pre = c .before .before .before .before .before .pre in
-    (pre .1, (sym ((c .before .unit-at) .ensures) ∙ (c .if2) .taken), (sym (is .ensures) ∙ if1 .left))
+    let unopened = c .before .before in
+    (unopened .before .before .before .pre .1, sym (c .before .unit-at .ensures) ∙ c .if2 .taken, sym (unopened .before .is .ensures) ∙ unopened .if1 .left)
 
 enum-known-q : tie.Need-enum-known-q
 enum-known-q c = search needs
 
 returns-2 : tie.Need-returns-2
-returns-2 c =
-    let literal-at = c .before .before .before .literal-at in
-    let args = c .before .before .before .before .before .before .before .before .before .args in
-    literal-fault (args .text .now) (args .at) (literal-at .result) (literal-at .ensures) ((c .before .q) .given .0 .0) ((c .before .q) .given .1)
+returns-2 c = rw (c .before .q .given .1) at (c .before .before .before .literal-at .ensures)
 
 enum-known-q-2 : tie.Need-enum-known-q-2
 enum-known-q-2 c = search needs
 
 returns-3 : tie.Need-returns-3
 returns-3 c =
-    let literal-at = c .before .before .before .literal-at in
-    let args = c .before .before .before .before .before .before .before .before .before .args in
-    step-literal (args .text .now) (args .at) ((c .before .q2) .given .0 .0) ((c .before .q2) .given .0 .1 .0) ((c .before .q2) .given .0 .1 .1 .0) ((c .before .q2) .given .0 .1 .1 .1 .0) (literal-taken (args .text .now) (args .at) (literal-at .result) (literal-at .ensures) ((c .before .q2) .given .0 .0) ((c .before .q2) .given .0 .1 .0) ((c .before .q2) .given .0 .1 .1 .0) ((c .before .q2) .given .0 .1 .1 .1 .0) ((c .before .q2) .given .1))
+    let read = c .before .before .before in
+    let args = read .before .before .before .before .before .before .args in
+    step-literal (args .text .now) (args .at) (rw (c .before .q2 .given .1) at (read .literal-at .ensures))
 
 add-t12 : tie.Need-add-t12
 add-t12 c = search needs

@@ -1,11 +1,49 @@
+use Prim.Native.Nat.{_+_, _<_}
 use borrow.Author.Needs.{needs}
-use mathlib.Core.Path.{sym, _∙_}
+use lib.ListN.{length, drop}
+use mathlib.Core.Bool.{true}
+use mathlib.Core.Path.{sym, _∙_, _≡_}
 use native.Mathlib.Omega.{arith}
-use Rattle.lexer.proofs.Units.{plain-inside, literal-taken}
-use Rattle.text.proofs.Readers.{literal-short, literal-wrong, literal-onward, literal-long}
-use Rattle.text.specs.Reads.{out}
+use Rattle.lexer.proofs.Units.{plain-inside}
+use Rattle.lexer.specs.Places.{plainAt, Taken}
+use Rattle.text.proofs.Faults.{fails-token}
+use Rattle.text.proofs.Parts.{part-plain, part-literal}
+use Rattle.text.proofs.Readers.{begun, plain-onward, literal-onward}
+use Rattle.text.specs.Reads.{out, Onward}
 use Rattle.text.proofs.literal.Statement.{statement}
 use Rattle.text.proofs.literal.Tie as tie
+
+-- back to the start, from a plain byte and from a literal that was read
+abbrev start : tie.Then1 → tie.Start
+start c = c .before .before .before .before .before
+
+abbrev begin : tie.After-q2 → tie.Start
+begin c = c .before .before .before .before .before .before .before .before
+
+plain : (c : tie.Then1) → let args = start c .args in plainAt (drop (args .at) (args .text .now)) ≡ true
+plain c = sym (c .before .plain-at .ensures) ∙ c .if1 .taken
+
+inside : (c : tie.Then1) → let args = start c .args in args .at < length (args .text .now)
+inside c = plain-inside (start c .args .text .now) (start c .args .at) (plain c)
+
+plain-far : (c : tie.Then1) → let args = start c .args in Onward (length (args .text .now)) (args .at) (args .at + 1) (args .n + 1) (args .l + 1) 2
+plain-far c = plain-onward (start c .pre .0) (inside c)
+
+taken :
+    (c : tie.After-q2) →
+    let args = begin c .args in
+    let q = c .q2 .given .0 in
+    Taken (args .text .now) (args .at) (q .0) (q .1 .0) (q .1 .1 .0) (q .1 .1 .1 .0)
+taken c = rw (c .q2 .given .1) at (c .before .before .literal-at .ensures)
+
+literal-far :
+    (c : tie.After-letters) →
+    let told = c .before .before .before .before .before .before .before in
+    let args = begin told .args in
+    Onward (length (args .text .now)) (args .at) (told .q2 .given .0 .1 .1 .1 .0) (c .before .before .before .before .repeat .result) (c .letters .result) 2
+literal-far c =
+    let told = c .before .before .before .before .before .before .before in
+    literal-onward (begin told .pre .0) (taken told) (c .before .before .before .before .repeat .ensures) (c .letters .ensures)
 
 plain-at-requires : tie.Need-plain-at-requires
 plain-at-requires c κs = search needs
@@ -14,11 +52,7 @@ emit-requires : tie.Need-emit-requires
 emit-requires c κs = search needs
 
 shared-slice-read-emit : tie.Need-shared-slice-read-emit
-shared-slice-read-emit c =
-    let if1 = c .before .before .before .before .before .before .if1 in
-    let plain-at = c .before .before .before .before .before .before .before .plain-at in
-    let args = c .before .before .before .before .before .before .before .before .before .before .before .args in
-    plain-inside (args .text .now) (args .at) (sym (plain-at .ensures) ∙ if1 .taken)
+shared-slice-read-emit c = inside (c .before .before .before .before .before .before)
 
 emit-requires-2 : tie.Need-emit-requires-2
 emit-requires-2 c κs = search needs
@@ -34,11 +68,8 @@ add-stars-3 c = search needs
 
 stars-requires : tie.Need-stars-requires
 stars-requires c κs =
-    let if1 = c .before .before .before .before .before .before .before .before .before .before .if1 in
-    let plain-at = c .before .before .before .before .before .before .before .before .before .before .before .plain-at in
-    let pre = c .before .before .before .before .before .before .before .before .before .before .before .before .before .before .before .pre in
-    let args = c .before .before .before .before .before .before .before .before .before .before .before .before .before .before .before .args in
-    let g = pre .0 in record { inside = omega (arith, plain-inside (args .text .now) (args .at) (sym (plain-at .ensures) ∙ if1 .taken)); short = g .short; nodes = omega (arith, g .nodes); leaves = omega (arith, g .leaves) }
+    let read = c .before .before .before .before .before .before .before .before .before .before in
+    begun (plain-far read) (start read .pre .0 .short)
 
 same-length : tie.Need-same-length
 same-length c = search needs
@@ -48,14 +79,11 @@ same-length-2 c = search needs
 
 returns : tie.Need-returns
 returns c =
-    let stars = c .before .before .stars in
-    let emit2 = c .before .before .before .before .before .before .emit2 in
-    let emit = c .before .before .before .before .before .before .before .before .before .before .before .emit in
-    let if1 = c .before .before .before .before .before .before .before .before .before .before .before .before .before .if1 in
-    let plain-at = c .before .before .before .before .before .before .before .before .before .before .before .before .before .before .plain-at in
-    let args = c .before .before .before .before .before .before .before .before .before .before .before .before .before .before .before .before .before .before .args in
-    let pre = c .before .before .before .before .before .before .before .before .before .before .before .before .before .before .before .before .before .before .pre in
-    literal-short (args .text .now) (args .at) (args .n) (args .l) (args .nodes .now) (emit .last .0) (stars .last .1 .0) (args .lits .now) (emit2 .last .0) (stars .result) (pre .0) (sym (plain-at .ensures) ∙ if1 .taken) (emit .ensures) (emit2 .ensures) (stars .ensures)
+    let read = c .before .before .before .before .before .before .before .before .before .before .before .before .before in
+    let args = start read .args in
+    let stored = c .before .before .before .before .before .before .emit2 in
+    λ d. c .before .before .stars .ensures d (args .at) (out (args .n) (args .nodes .now) (args .l) (args .lits .now)) (stored .last .0)
+    (part-plain (plain read) (c .before .before .before .before .before .before .before .before .before .before .before .emit .ensures) (stored .ensures)) (plain-far read)
 
 literal-at-requires : tie.Need-literal-at-requires
 literal-at-requires c κs = search needs
@@ -65,38 +93,25 @@ enum-known-q c = search needs
 
 returns-2 : tie.Need-returns-2
 returns-2 c =
-    let literal-at = c .before .before .before .literal-at in
     let args = c .before .before .before .before .before .before .before .before .before .args in
-    literal-wrong (args .text .now) (args .at) (out (args .n) (args .nodes .now) (args .l) (args .lits .now)) (args .nodes .now) (args .lits .now) (literal-at .result) ((c .before .q) .given .0 .0) ((c .before .q) .given .1) (literal-at .ensures)
+    let q = c .before .q .given in
+    λ d. fails-token (args .text .now) d (args .at) (q .0 .0) (rw (q .1) at (c .before .before .before .literal-at .ensures))
 
 enum-known-q-2 : tie.Need-enum-known-q-2
 enum-known-q-2 c = search needs
 
 repeat-requires : tie.Need-repeat-requires
 repeat-requires c κs =
-    let q2 = c .before .before .q2 in
-    let literal-at = c .before .before .before .before .literal-at in
-    let args = c .before .before .before .before .before .before .before .before .before .before .args in
-    let pre = c .before .before .before .before .before .before .before .before .before .before .pre in
-    let v = (literal-taken (args .text .now) (args .at) (literal-at .result) (literal-at .ensures) (q2 .given .0 .0) (q2 .given .0 .1 .0) (q2 .given .0 .1 .1 .0) (q2 .given .0 .1 .1 .1 .0) (q2 .given .1)) in let g = pre .0 in omega (arith, v .most, g .inside, g .short, g .nodes)
+    let b = begin (c .before .before) .pre .0 in
+    omega (arith, taken (c .before .before) .most, b .inside, b .short, b .nodes)
 
 letters-requires : tie.Need-letters-requires
 letters-requires c κs =
-    let q2 = c .before .before .before .before .before .before .q2 in
-    let literal-at = c .before .before .before .before .before .before .before .before .literal-at in
-    let args = c .before .before .before .before .before .before .before .before .before .before .before .before .before .before .args in
-    let pre = c .before .before .before .before .before .before .before .before .before .before .before .before .before .before .pre in
-    let v = (literal-taken (args .text .now) (args .at) (literal-at .result) (literal-at .ensures) (q2 .given .0 .0) (q2 .given .0 .1 .0) (q2 .given .0 .1 .1 .0) (q2 .given .0 .1 .1 .1 .0) (q2 .given .1)) in let g = pre .0 in omega (arith, v .most, g .inside, g .short, g .leaves)
+    let b = begin (c .before .before .before .before .before .before) .pre .0 in
+    omega (arith, taken (c .before .before .before .before .before .before) .most, b .inside, b .short, b .leaves)
 
 stars-requires-2 : tie.Need-stars-requires-2
-stars-requires-2 c κs =
-    let letters = c .before .before .before .letters in
-    let repeat = c .before .before .before .before .before .before .before .repeat in
-    let q2 = c .before .before .before .before .before .before .before .before .before .before .q2 in
-    let literal-at = c .before .before .before .before .before .before .before .before .before .before .before .before .literal-at in
-    let args = c .before .before .before .before .before .before .before .before .before .before .before .before .before .before .before .before .before .before .args in
-    let pre = c .before .before .before .before .before .before .before .before .before .before .before .before .before .before .before .before .before .before .pre in
-    let v = literal-onward (args .text .now) (args .at) (args .n) (args .l) (args .nodes .now) (repeat .last .0) (args .lits .now) (letters .last .0) (pre .0) (q2 .given .0 .0) (q2 .given .0 .1 .0) (q2 .given .0 .1 .1 .0) (q2 .given .0 .1 .1 .1 .0) (repeat .result) (letters .result) (literal-taken (args .text .now) (args .at) (literal-at .result) (literal-at .ensures) (q2 .given .0 .0) (q2 .given .0 .1 .0) (q2 .given .0 .1 .1 .0) (q2 .given .0 .1 .1 .1 .0) (q2 .given .1)) (repeat .ensures) (letters .ensures) in record { inside = v .inside; short = pre .0 .short; nodes = omega (arith, v .nodes); leaves = v .leaves }
+stars-requires-2 c κs = begun (literal-far (c .before .before .before)) (begin (c .before .before .before .before .before .before .before .before .before .before) .pre .0 .short)
 
 same-length-3 : tie.Need-same-length-3
 same-length-3 c = search needs
@@ -106,14 +121,11 @@ same-length-4 c = search needs
 
 returns-3 : tie.Need-returns-3
 returns-3 c =
-    let stars2 = c .before .before .stars2 in
-    let letters = c .before .before .before .before .before .before .letters in
-    let repeat = c .before .before .before .before .before .before .before .before .before .before .repeat in
-    let q2 = c .before .before .before .before .before .before .before .before .before .before .before .before .before .q2 in
-    let literal-at = c .before .before .before .before .before .before .before .before .before .before .before .before .before .before .before .literal-at in
-    let args = c .before .before .before .before .before .before .before .before .before .before .before .before .before .before .before .before .before .before .before .before .before .args in
-    let pre = c .before .before .before .before .before .before .before .before .before .before .before .before .before .before .before .before .before .before .before .before .before .pre in
-    literal-long (args .text .now) (args .at) (args .n) (args .l) (args .nodes .now) (repeat .last .0) (args .lits .now) (letters .last .0) (pre .0) (q2 .given .0 .0) (q2 .given .0 .1 .0) (q2 .given .0 .1 .1 .0) (q2 .given .0 .1 .1 .1 .0) (repeat .result) (letters .result) (literal-taken (args .text .now) (args .at) (literal-at .result) (literal-at .ensures) (q2 .given .0 .0) (q2 .given .0 .1 .0) (q2 .given .0 .1 .1 .0) (q2 .given .0 .1 .1 .1 .0) (q2 .given .1)) (repeat .ensures) (letters .ensures) (stars2 .last .1 .0) (stars2 .result) (stars2 .ensures)
+    let done = c .before .before .before .before .before .before in
+    let told = done .before .before .before .before .before .before .before in
+    let args = begin told .args in
+    λ d. c .before .before .stars2 .ensures d (args .at) (out (args .n) (args .nodes .now) (args .l) (args .lits .now)) (done .letters .last .0)
+    (part-literal (taken told) (done .before .before .before .before .repeat .ensures) (done .letters .ensures)) (literal-far done)
 
 pub literal-spec : {M : Type 1} → statement M
 literal-spec =

@@ -1,11 +1,13 @@
-use Prim.Native.Nat.{ℕ, _+_, _≤_, _-_}
+use Prim.Native.Nat.{ℕ, _+_, _-_, _<_, _≤_}
 use borrow.Author.Needs.{needs}
-use lib.ListN.{length}
+use lib.ListN.{length, drop}
+use mathlib.Core.Bool.{true}
 use mathlib.Core.List.{List}
 use mathlib.Core.Path.{refl, sym, _∙_, _≡_}
 use native.Mathlib.Omega.{arith}
 use Rattle.lexer.proofs.Front.{byte-inside}
 use Rattle.lexer.specs.Bytes.{asterisk}
+use Rattle.lexer.specs.Tokens.{starts}
 use Rattle.text.proofs.Parts.{part-star}
 use Rattle.text.specs.Reads.{Out, Part, out}
 use Rattle.text.proofs.stars.Statement.{statement}
@@ -13,16 +15,21 @@ use Rattle.text.proofs.stars.Tie as tie
 
 abbrev Inv-loop : tie.InvT-loop
 Inv-loop text nodes₀ at n l i₀ m₀ nodes i m =
-    ((d from : ℕ) (o : Out) (bs : List ℕ) → Part text d from o at (out n nodes₀ l bs) → Part text d from o i (out m nodes l bs)) × (m + at ≡ n + i) × (at ≤ i) × (i ≤ length text) × (length nodes ≡ length nodes₀)
+    ((d from : ℕ) (o : Out) (bs : List ℕ) → Part text d from o at (out n nodes₀ l bs) → Part text d from o i (out m nodes l bs))
+    × (m + at ≡ n + i) × (at ≤ i) × (i ≤ length text) × (length nodes ≡ length nodes₀)
 
 abbrev μ-loop : tie.MeasureT-loop
-μ-loop text nodes₀ at n l i₀ m₀ nodes i m =
-    length text - i
+μ-loop text nodes₀ at n l i₀ m₀ nodes i m = length text - i
+
+-- a star stands here
+star : (c : tie.Then1 Inv-loop μ-loop) → starts (drop (c .before .before .loop .i) (c .before .before .before .before .before .args .text .now)) asterisk ≡ true
+star c = sym (c .before .is .ensures) ∙ c .if1 .taken
+
+inside : (c : tie.Then1 Inv-loop μ-loop) → c .before .before .loop .i < length (c .before .before .before .before .before .args .text .now)
+inside c = byte-inside (c .before .before .before .before .before .args .text .now) (c .before .before .loop .i) asterisk (star c)
 
 loop-holds : tie.Need-loop-holds Inv-loop μ-loop
-loop-holds c =
-    let pre = c .before .before .pre in
-    (λ d from o bs p. p, omega arith, omega arith, pre .inside, refl)
+loop-holds c = (λ d from o bs p. p, omega arith, omega arith, c .before .before .pre .inside, refl)
 
 is-requires : tie.Need-is-requires Inv-loop μ-loop
 is-requires c κs = search needs
@@ -31,47 +38,39 @@ emit-requires : tie.Need-emit-requires Inv-loop μ-loop
 emit-requires c κs = search needs
 
 add-i : tie.Need-add-i Inv-loop μ-loop
-add-i c =
-    let if1 = c .before .before .before .before .if1 in
-    let is = c .before .before .before .before .before .is in
-    let loop = c .before .before .before .before .before .before .loop in
-    let pre = c .before .before .before .before .before .before .before .before .before .pre in
-    let args = c .before .before .before .before .before .before .before .before .before .args in
-    omega (arith, pre .short, (byte-inside (args .text .now) (loop .i) asterisk (sym (is .ensures) ∙ if1 .taken)))
+add-i c = omega (arith, c .before .before .before .before .before .before .before .before .before .pre .short, inside (c .before .before .before .before))
 
 add-m : tie.Need-add-m Inv-loop μ-loop
 add-m c =
-    let if1 = c .before .before .before .before .if1 in
-    let is = c .before .before .before .before .before .is in
-    let loop = c .before .before .before .before .before .before .loop in
     let pre = c .before .before .before .before .before .before .before .before .before .pre in
-    let args = c .before .before .before .before .before .before .before .before .before .args in
-    let v = loop .inv in omega (arith, pre .short, pre .nodes, (byte-inside (args .text .now) (loop .i) asterisk (sym (is .ensures) ∙ if1 .taken)), v .1, v .2, v .3)
+    let (goes, count, along, in-text, kept) = c .before .before .before .before .before .before .loop .inv in
+    omega (arith, pre .short, pre .nodes, inside (c .before .before .before .before), count, along)
 
 loop-less : tie.Need-loop-less Inv-loop μ-loop
-loop-less c =
-    let if1 = c .before .before .before .before .if1 in
-    let is = c .before .before .before .before .before .is in
-    let loop = c .before .before .before .before .before .before .loop in
-    let args = c .before .before .before .before .before .before .before .before .before .args in
-    omega (arith, (byte-inside (args .text .now) (loop .i) asterisk (sym (is .ensures) ∙ if1 .taken)))
+loop-less c = omega (arith, inside (c .before .before .before .before))
 
 loop-again : tie.Need-loop-again Inv-loop μ-loop
 loop-again c =
-    let emit = c .before .before .emit in
-    let if1 = c .before .before .before .before .if1 in
-    let is = c .before .before .before .before .before .is in
-    let loop = c .before .before .before .before .before .before .loop in
-    let args = c .before .before .before .before .before .before .before .before .before .args in
-    let v = loop .inv in (λ d from o bs p. part-star (args .text .now) d from o (loop .i) (loop .m) (loop .nodes) (args .l) bs (emit .last .0) (v .0 d from o bs p) (sym (is .ensures) ∙ if1 .taken) (emit .ensures), omega (arith, v .1), omega (arith, v .2), omega (arith, (byte-inside (args .text .now) (loop .i) asterisk (sym (is .ensures) ∙ if1 .taken))), omega (arith, emit .kept, v .4))
+    let (goes, count, along, in-text, kept) = c .before .before .before .before .before .before .loop .inv in
+    let emit = c .before .before .emit in (
+      λ d from o bs p. part-star (goes d from o bs p) (star (c .before .before .before .before)) (emit .ensures),
+      omega (arith, count),
+      omega (arith, along),
+      omega (arith, inside (c .before .before .before .before)),
+      omega (arith, emit .kept, kept),
+    )
 
 same-length : tie.Need-same-length Inv-loop μ-loop
 same-length c = search needs
 
 returns : tie.Need-returns Inv-loop μ-loop
 returns c =
-    let loop = c .before .before .loop in
-    let v = loop .inv in λ d from o bs p w. (v .0 d from o bs p, (sym ((c .before .is) .ensures) ∙ (c .if1) .left), record { further = omega (arith, w .further, v .2); inside = v .3; nodes = omega (arith, w .nodes, v .1, v .2); leaves = omega (arith, w .leaves, v .2) })
+    let (goes, count, along, in-text, kept) = c .before .before .loop .inv in
+    λ d from o bs p w. (
+      goes d from o bs p,
+      sym (c .before .is .ensures) ∙ c .if1 .left,
+      record { further = omega (arith, w .further, along); inside = in-text; nodes = omega (arith, w .nodes, count, along); leaves = omega (arith, w .leaves, along) },
+    )
 
 pub stars-spec : {M : Type 1} → statement M
 stars-spec =
