@@ -10,7 +10,7 @@ echo "|---|---|---|---|---|---|---|---|"
 grep -v '^#' crates.txt | grep -o '^[a-z_]*' | while read -r crate; do
     base=crates/$crate
     laws=("$base"/proofs/*.antt)
-    proofs=("$base"/proofs/*/Proof.antt)
+    proofs=("$base"/proofs/*/**/*.antt)
     specs=("$base"/specs/*.antt)
     edits=("$base"/must-fail/*.edit)
     seconds=$(sed -n "s/^rt: $crate proved (\([0-9]*\) s).*/\1/p" "$log" | tail -1)
