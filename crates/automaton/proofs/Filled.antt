@@ -10,7 +10,7 @@ use native.Mathlib.Omega.{arith}
 use lib.Dec.{eqb, leb, eqb·suc-zero}
 use borrow.Author.Tests.{eq-eqb, ne-eqb, le-leb, lt-leb, lt-ltb, le-ltb}
 use Rattle.rules.specs.Limits.{lowestByte, highestByte}
-use Rattle.rules.proofs.Refusal.{some-eq}
+use Rattle.rules.proofs.Grounds.{some-eq}
 use Rattle.language.specs.Tree.{size}
 use Rattle.language.specs.Reading.{Pattern}
 use Rattle.language.specs.Follow.{follow, step}

@@ -9,7 +9,7 @@ use native.Mathlib.Omega.{arith}
 use lib.ListN.{length, getD, drop, length-drop, length-map, drop-of-length-le}
 use lib.Seq.{drop-cons}
 use Rattle.rules.specs.Limits.{leafLimit, nodeLimit, waitingLimit}
-use Rattle.rules.proofs.Refusal.{some-eq, no-some}
+use Rattle.rules.proofs.Grounds.{some-eq, no-some}
 use Rattle.language.specs.Tree.{Tree, leaf, empty, cat, alt, star, size}
 use Rattle.language.specs.Reading.{Pattern}
 use Rattle.language.specs.Follow.{follow}

@@ -6,8 +6,8 @@ use Prim.Native.Nat.{ℕ, zero, suc, _+_, _*_}
 use native.Mathlib.Omega.{arith}
 use lib.ListN.{length, take, replicate}
 use Rattle.rules.specs.Limits.{entrySize, wiped}
-use Rattle.rules.specs.Numbers.{notSo, givenNoReading}
-use Rattle.rules.proofs.Refusal.{some-eq}
+use Rattle.rules.specs.Numbers.{no, noReading}
+use Rattle.rules.proofs.Grounds.{some-eq}
 use Rattle.language.specs.Tree.{size}
 use Rattle.language.specs.Reading.{Pattern, Language, Reading}
 use Rattle.language.specs.Order.{Above}
@@ -16,7 +16,7 @@ use Rattle.language.proofs.Local.{local, first-in}
 use Rattle.language.proofs.Readings.{in-language}
 use Rattle.sheet.specs.Stands.{standsFor}
 use Rattle.sheet.proofs.Accepted.{standing}
-use Rattle.reader.specs.Outcome.{End, given, NextWent, foundNext, noMore, noReading}
+use Rattle.reader.specs.Outcome.{End, given, NextWent, foundNext, noMore, unread}
 use Rattle.claims.specs.Lines.{AfterNoMore}
 use Rattle.claims.proofs.Demand2.{went}
 
@@ -33,10 +33,10 @@ module _ (sheet name mapping work : List ℕ) (b : ℕ) where
   unread : (P : Pattern) → standsFor sheet ≡ some P → Reading P (b ∷ name) (given (b ∷ name) (wiped mapping)) → ⊥
   unread P x r = zeros-read-nothing P (standing sheet P x .numbered) b name (entrySize * length (b ∷ name)) (length mapping) r
 
-  again : (s : End) → NextWent sheet (b ∷ name) (wiped mapping) work s → s .number ≡ givenNoReading
+  again : (s : End) → NextWent sheet (b ∷ name) (wiped mapping) work s → s .number ≡ noReading
   again s (foundNext {P = P} x g r) = absurd (unread P x g)
   again s (noMore {P = P} x g n) = absurd (unread P x g)
-  again s (noReading x n) = refl
+  again s (unread x n) = refl
 
 -- the empty name has just the empty reading
 only-empty : (P : Pattern) (w : List ℕ) → Reading P [] w → w ≡ []
@@ -50,10 +50,10 @@ none-above P (p ∷ v) a = a .has .spells
 reads-empty : (P : Pattern) → Language P [] → Reading P [] []
 reads-empty P d = let (w, r) = (in-language P []) .0 d in rw (only-empty P w r) at r
 
-at-empty : (sheet mapping work : List ℕ) (P : Pattern) (s : End) → standsFor sheet ≡ some P → Language P [] → NextWent sheet [] mapping work s → s .number ≡ notSo
+at-empty : (sheet mapping work : List ℕ) (P : Pattern) (s : End) → standsFor sheet ≡ some P → Language P [] → NextWent sheet [] mapping work s → s .number ≡ no
 at-empty sheet mapping work P s e d (foundNext {P = Q} {r = r} x g h) = absurd (none-above Q r (h .has))
 at-empty sheet mapping work P s e d (noMore x g n) = refl
-at-empty sheet mapping work P s e d (noReading x n) = absurd (n (rw (some-eq (sym e ∙ x)) at (reads-empty P d)))
+at-empty sheet mapping work P s e d (unread x n) = absurd (n (rw (some-eq (sym e ∙ x)) at (reads-empty P d)))
 
 pub after-no-more : AfterNoMore
 after-no-more =

@@ -5,7 +5,7 @@ use mathlib.Core.Option.{Option, none, some}
 use mathlib.Core.List.{List, [], _∷_}
 use Prim.Native.Nat.{ℕ, _+_}
 use lib.Dec.{T, eqb, eqb→eq, T-not}
-use Rattle.rules.specs.Refusal.{firstOf}
+use Rattle.rules.specs.Grounds.{firstOf}
 use Rattle.language.specs.Tree.{Tree, size}
 use Rattle.language.specs.Reading.{Pattern, Reading}
 use Rattle.language.specs.Order.{NextReading, NoMore}

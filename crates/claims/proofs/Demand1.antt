@@ -7,9 +7,9 @@ use Prim.Native.Nat.{ℕ, _≤_, _<_}
 use native.Mathlib.Omega.{arith}
 use lib.ListN.{length}
 use Rattle.rules.specs.Limits.{openLimit, wiped}
-use Rattle.rules.specs.Numbers.{done, longText, shortSheet, strangeRepeat, otherForm, shortWork}
-use Rattle.rules.specs.Refusal.{firstOf, Call, refused, answered}
-use Rattle.rules.proofs.Refusal.{some-eq, no-some}
+use Rattle.rules.specs.Numbers.{done, textLong, sheetShort, repeatFault, sheetForm, workShort}
+use Rattle.rules.specs.Grounds.{firstOf, Call, refused, answered}
+use Rattle.rules.proofs.Grounds.{some-eq, no-some}
 use Rattle.language.specs.Tree.{Tree}
 use Rattle.lexer.specs.Tokens.{tokensFrom}
 use Rattle.sheet.specs.Make.{sheetOf}
@@ -20,7 +20,7 @@ use Rattle.text.proofs.Parsing.{unambiguous}
 use Rattle.text.proofs.Numbers.{text-number}
 use Rattle.text.proofs.Outcome.{sheet-settled, sheet-ends}
 use Rattle.reader.specs.Refusals.{mappingGrounds, acceptGrounds}
-use Rattle.reader.specs.Outcome.{End, refusedWith, cleared, AcceptWent, accepted, notIn, FirstWent, found, absent, NextWent, foundNext, noMore, noReading, CheckWent, right, wrong}
+use Rattle.reader.specs.Outcome.{End, refusedWith, cleared, AcceptWent, accepted, notIn, FirstWent, found, absent, NextWent, foundNext, noMore, unread, CheckWent, right, wrong}
 use Rattle.reader.proofs.Answers.{answer-known}
 use Rattle.reader.proofs.Settled.{accept-settled, accept-ends, first-settled, first-ends, next-settled, next-ends, check-settled, check-ends}
 use Rattle.claims.specs.Demand1.{Definite, NameCall, TextCall, Demand1}
@@ -28,7 +28,7 @@ use Rattle.claims.specs.Demand1.{Definite, NameCall, TextCall, Demand1}
 -- an answer that is no refusal clears the rows, and its number is none of 20 to 32
 record Answered (name work : List ℕ) (s : End) : Type 0 where
   clear : s .work ≡ cleared name work
-  beside : (k : ℕ) → otherForm ≤ k → k ≤ shortWork → s .number ≡ k → ⊥
+  beside : (k : ℕ) → sheetForm ≤ k → k ≤ workShort → s .number ≡ k → ⊥
 
 module _ (grounds : List (Option ℕ)) (kept name work : List ℕ) (went : End → Type 0) (answers : (s : End) → went s → Answered name work s) where
   abbrev Outcome : End → Type 0
@@ -37,7 +37,7 @@ module _ (grounds : List (Option ℕ)) (kept name work : List ℕ) (went : End �
   name-call : Definite Outcome → NameCall grounds kept name work Outcome
   name-call d = record { definite = d; exactly = exactly; keeps = keeps; clears = clears }
     where
-      exactly : (s : End) → Outcome s → (k : ℕ) → otherForm ≤ k → k ≤ shortWork → (s .number ≡ k) ↔ (firstOf grounds ≡ some k)
+      exactly : (s : End) → Outcome s → (k : ℕ) → sheetForm ≤ k → k ≤ workShort → (s .number ≡ k) ↔ (firstOf grounds ≡ some k)
       exactly s (refused e) k a b = (λ z. e ∙ ap some z, λ f. some-eq (sym e ∙ f))
       exactly s (answered e w) k a b = (λ z. absurd (answers s w .beside k a b z), λ f. no-some (sym e ∙ f))
 
@@ -61,7 +61,7 @@ module _ (sheet name mapping work : List ℕ) where
   next-answers : (s : End) → NextWent sheet name mapping work s → Answered name work s
   next-answers s (foundNext x g r) = record { clear = refl; beside = λ k a b e. omega arith }
   next-answers s (noMore x g n) = record { clear = refl; beside = λ k a b e. omega arith }
-  next-answers s (noReading x n) = record { clear = refl; beside = λ k a b e. omega arith }
+  next-answers s (unread x n) = record { clear = refl; beside = λ k a b e. omega arith }
 
   check-answers : (s : End) → CheckWent sheet name mapping work s → Answered name work s
   check-answers s (right x g) = record { clear = refl; beside = λ k a b e. omega arith }
@@ -76,14 +76,14 @@ text-call text buffer =
       wipes = wipes;
     }
   where
-    exactly : (s : SheetEnd) → SheetCall text buffer s → (k i : ℕ) → longText ≤ k → k ≤ strangeRepeat → (k ≡ shortSheet → ⊥)
+    exactly : (s : SheetEnd) → SheetCall text buffer s → (k i : ℕ) → textLong ≤ k → k ≤ repeatFault → (k ≡ sheetShort → ⊥)
         → ((s .number ≡ k) × (s .second ≡ i)) ↔ (textRefusal text ≡ some (at i k))
     exactly s (refused {k = f} e) k i a b c = (λ (m, n). e ∙ ap₂ (λ (k i : ℕ). some (at i k)) m n, λ g. (ap (λ (f : Fault). f .number) (some-eq (sym e ∙ g)), ap (λ (f : Fault). f .place) (some-eq (sym e ∙ g))))
     exactly s (answered e (made p h)) k i a b c = (λ (m, n). absurd (omega arith), λ g. no-some (sym e ∙ g))
     exactly s (answered e (short p h)) k i a b c = (λ (m, n). absurd (c (sym m)), λ g. no-some (sym e ∙ g))
 
     too-short : (s : SheetEnd) → SheetCall text buffer s
-        → (s .number ≡ shortSheet) ↔ ((textRefusal text ≡ none) × (t : Tree ℕ) × TreeOfText text t × (length buffer < length (sheetOf t)))
+        → (s .number ≡ sheetShort) ↔ ((textRefusal text ≡ none) × (t : Tree ℕ) × TreeOfText text t × (length buffer < length (sheetOf t)))
     too-short s (refused {k = f} e) = (λ z. absurd (text-number text f e .other z), λ x. no-some (sym (x .0) ∙ e))
     too-short s (answered e (made {t = t} p h)) = (λ z. absurd (omega arith), λ x. absurd (longer (x .1) (x .2) (x .3)))
       where

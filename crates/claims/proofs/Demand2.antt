@@ -4,8 +4,8 @@ use mathlib.Core.Option.{Option, none, some}
 use mathlib.Core.List.{List}
 use Prim.Native.Nat.{ℕ}
 use native.Mathlib.Omega.{arith}
-use Rattle.rules.specs.Refusal.{Call, refused, answered}
-use Rattle.rules.proofs.Refusal.{some-eq, no-some}
+use Rattle.rules.specs.Grounds.{Call, refused, answered}
+use Rattle.rules.proofs.Grounds.{some-eq, no-some}
 use Rattle.language.specs.Reading.{Pattern}
 use Rattle.sheet.specs.Stands.{standsFor}
 use Rattle.sheet.proofs.Accepted.{accepted-meant}

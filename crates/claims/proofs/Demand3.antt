@@ -9,8 +9,8 @@ use lib.ListN.{length, replicate}
 use lib.Seq.{take-at}
 use borrow.Author.Tests.{le-ltb}
 use Rattle.rules.specs.Limits.{nameLimit, entrySize, areaFor, stored, filled}
-use Rattle.rules.specs.Refusal.{firstOf}
-use Rattle.rules.proofs.Refusal.{some-eq, later-part}
+use Rattle.rules.specs.Grounds.{firstOf}
+use Rattle.rules.proofs.Grounds.{some-eq, later-part}
 use Rattle.language.specs.Reading.{Pattern, Spells, Reading}
 use Rattle.language.specs.Order.{FirstReading, NextReading, NoReading, NoMore}
 use Rattle.language.specs.Listing.{Onward, Listing}
@@ -20,7 +20,7 @@ use Rattle.sheet.specs.Refusals.{sheetGrounds, sheetRefusal}
 use Rattle.sheet.specs.Stands.{standsFor}
 use Rattle.sheet.proofs.Accepted.{standing}
 use Rattle.reader.specs.Refusals.{nameGrounds, mappingGrounds}
-use Rattle.reader.specs.Outcome.{End, answeredWith, given, FirstWent, found, absent, NextWent, foundNext, noMore, noReading}
+use Rattle.reader.specs.Outcome.{End, answeredWith, given, FirstWent, found, absent, NextWent, foundNext, noMore, unread}
 use Rattle.claims.specs.Demand3.{Enough, Gives, GoesOn, Asking, Demand3}
 use Rattle.claims.proofs.Demand2.{went}
 
@@ -61,12 +61,12 @@ module _ (sheet name : List ℕ) (P : Pattern) (fine : sheetRefusal sheet ≡ no
   next-gives : (r q : List ℕ) → Reading P name r → NextReading P name r q → (mapping work : List ℕ) (s : End) → given name mapping ≡ r → NextWent sheet name mapping work s → Gives name mapping q s
   next-gives r q y f mapping work s z (foundNext x g h) = rw (← least-unique f (rw (this-pattern x, z) at h)) (gives mapping work q (f .has .has))
   next-gives r q y f mapping work s z (noMore x g n) = absurd (n q (rw (← this-pattern x, ← z) at (f .has)))
-  next-gives r q y f mapping work s z (noReading x n) = absurd (n (rw (← this-pattern x, ← z) at y))
+  next-gives r q y f mapping work s z (unread x n) = absurd (n (rw (← this-pattern x, ← z) at y))
 
   next-says : (r : List ℕ) → Reading P name r → NoMore P name r → (mapping work : List ℕ) (s : End) → given name mapping ≡ r → NextWent sheet name mapping work s → s .number ≡ 1
   next-says r y f mapping work s z (foundNext {r = q} x g h) = absurd (f q (rw (this-pattern x, z) at (h .has)))
   next-says r y f mapping work s z (noMore x g n) = refl
-  next-says r y f mapping work s z (noReading x n) = absurd (n (rw (← this-pattern x, ← z) at y))
+  next-says r y f mapping work s z (unread x n) = absurd (n (rw (← this-pattern x, ← z) at y))
 
   goes-on : (r : List ℕ) (qs : List (List ℕ)) → Reading P name r → Onward P name r qs → GoesOn sheet name r qs
   goes-on r [] y f = λ mapping work s b z c. next-says r y f mapping work s z (went s (none-refused mapping work b) c)

@@ -1,7 +1,7 @@
 -- What a text makes is right.
 use mathlib.Core.Path.{refl}
 use native.Mathlib.Omega.{arith}
-use Rattle.rules.specs.Refusal.{refused, answered}
+use Rattle.rules.specs.Grounds.{refused, answered}
 use Rattle.sheet.proofs.Own.{own-stands}
 use Rattle.sheet.proofs.Language.{own-language}
 use Rattle.text.specs.Outcome.{made, short}

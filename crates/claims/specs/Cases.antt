@@ -5,7 +5,7 @@ use mathlib.Core.List.{List, [], _∷_}
 use Prim.Native.Nat.{ℕ}
 use Prim.Native.String.{String, [] as noText, _∷_ as _then_}
 use Prim.Native.Char.{code}
-use Rattle.rules.specs.Refusal.{firstOf}
+use Rattle.rules.specs.Grounds.{firstOf}
 use Rattle.language.specs.Tree.{Tree}
 use Rattle.language.specs.Reading.{Pattern}
 use Rattle.language.specs.Listing.{Listing}

@@ -7,8 +7,8 @@ use mathlib.Core.List.{List, []}
 use Prim.Native.Nat.{ℕ, _≤_, _<_}
 use lib.ListN.{length}
 use Rattle.rules.specs.Limits.{wiped}
-use Rattle.rules.specs.Numbers.{done, longText, shortSheet, strangeRepeat, otherForm, shortWork}
-use Rattle.rules.specs.Refusal.{firstOf}
+use Rattle.rules.specs.Numbers.{done, textLong, sheetShort, repeatFault, sheetForm, workShort}
+use Rattle.rules.specs.Grounds.{firstOf}
 use Rattle.language.specs.Tree.{Tree}
 use Rattle.sheet.specs.Make.{sheetOf}
 use Rattle.text.specs.Refusals.{at, textRefusal}
@@ -26,17 +26,17 @@ pub record Definite {S : Type 0} (outcome : S → Type 0) : Type 0 where
 -- a name call with these grounds, which leaves its mapping so when it is refused
 pub record NameCall (grounds : List (Option ℕ)) (kept name work : List ℕ) (outcome : End → Type 0) : Type 0 where
   pub definite : Definite outcome
-  pub exactly : (s : End) → outcome s → (k : ℕ) → otherForm ≤ k → k ≤ shortWork → (s .number ≡ k) ↔ (firstOf grounds ≡ some k)
+  pub exactly : (s : End) → outcome s → (k : ℕ) → sheetForm ≤ k → k ≤ workShort → (s .number ≡ k) ↔ (firstOf grounds ≡ some k)
   pub keeps : (s : End) → outcome s → (k : ℕ) → firstOf grounds ≡ some k → (s .mapping ≡ kept) × (s .work ≡ work)
   pub clears : (s : End) → outcome s → firstOf grounds ≡ none → s .work ≡ cleared name work
 
 -- the sheet call; 18 comes last, and asks for the length of the sheet
 pub record TextCall (text buffer : List ℕ) : Type 0 where
   pub definite : Definite (SheetCall text buffer)
-  pub exactly : (s : SheetEnd) → SheetCall text buffer s → (k i : ℕ) → longText ≤ k → k ≤ strangeRepeat → (k ≡ shortSheet → ⊥)
+  pub exactly : (s : SheetEnd) → SheetCall text buffer s → (k i : ℕ) → textLong ≤ k → k ≤ repeatFault → (k ≡ sheetShort → ⊥)
       → ((s .number ≡ k) × (s .second ≡ i)) ↔ (textRefusal text ≡ some (at i k))
   pub short : (s : SheetEnd) → SheetCall text buffer s
-      → (s .number ≡ shortSheet) ↔ ((textRefusal text ≡ none) × (t : Tree ℕ) × TreeOfText text t × (length buffer < length (sheetOf t)))
+      → (s .number ≡ sheetShort) ↔ ((textRefusal text ≡ none) × (t : Tree ℕ) × TreeOfText text t × (length buffer < length (sheetOf t)))
   pub wipes : (s : SheetEnd) → SheetCall text buffer s → (s .number ≡ done → ⊥) → s .sheet ≡ wiped buffer
 
 pub record Demand1 : Type 0 where

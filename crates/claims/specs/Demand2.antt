@@ -5,8 +5,8 @@ use mathlib.Core.Option.{none, some}
 use mathlib.Core.List.{List}
 use Prim.Native.Nat.{ℕ}
 use Rattle.rules.specs.Limits.{stored, wiped, filled}
-use Rattle.rules.specs.Numbers.{done, notSo}
-use Rattle.rules.specs.Refusal.{firstOf}
+use Rattle.rules.specs.Numbers.{done, no}
+use Rattle.rules.specs.Grounds.{firstOf}
 use Rattle.language.specs.Reading.{Pattern, Language, Reading}
 use Rattle.language.specs.Order.{FirstReading}
 use Rattle.sheet.specs.Refusals.{sheetRefusal}
@@ -17,14 +17,14 @@ use Rattle.reader.specs.Outcome.{End, AcceptCall, FirstCall}
 -- accept says 0 exactly if the name is in the language of what the sheet stands for, else 1
 pub record Accepts (P : Pattern) (name : List ℕ) (s : End) : Type 0 where
   pub member : (s .number ≡ done) ↔ Language P name
-  pub other : (s .number ≡ notSo) ↔ (Language P name → ⊥)
+  pub other : (s .number ≡ no) ↔ (Language P name → ⊥)
 
 -- first says 0 exactly if there is a reading, and then leaves the least; else 1, and leaves nothing
 pub record Finds (P : Pattern) (name mapping : List ℕ) (s : End) : Type 0 where
   pub exists : (s .number ≡ done) ↔ ((w : List ℕ) × Reading P name w)
   pub least : s .number ≡ done → (r : List ℕ) × FirstReading P name r × (s .mapping ≡ filled mapping (stored r))
-  pub other : (s .number ≡ notSo) ↔ ((w : List ℕ) → Reading P name w → ⊥)
-  pub wipes : s .number ≡ notSo → s .mapping ≡ wiped mapping
+  pub other : (s .number ≡ no) ↔ ((w : List ℕ) → Reading P name w → ⊥)
+  pub wipes : s .number ≡ no → s .mapping ≡ wiped mapping
 
 pub record Demand2 : Type 0 where
   -- a sheet that is not refused stands for a pattern

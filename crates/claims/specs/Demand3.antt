@@ -6,7 +6,7 @@ use mathlib.Core.List.{List, [], _∷_}
 use Prim.Native.Nat.{ℕ, _*_, _≤_}
 use lib.ListN.{length}
 use Rattle.rules.specs.Limits.{nameLimit, entrySize, areaFor, stored, filled}
-use Rattle.rules.specs.Numbers.{done, notSo}
+use Rattle.rules.specs.Numbers.{done, no}
 use Rattle.language.specs.Reading.{Pattern}
 use Rattle.language.specs.Listing.{Whole}
 use Rattle.sheet.specs.Refusals.{sheetRefusal}
@@ -27,14 +27,14 @@ pub record Gives (name mapping r : List ℕ) (s : End) : Type 0 where
 -- asking for the next, in any buffers that are long enough and hold the reading just given, gives these and then says "no more"
 abbrev pub GoesOn : List ℕ → List ℕ → List ℕ → List (List ℕ) → Type 0
 GoesOn sheet name r [] =
-    (mapping work : List ℕ) (s : End) → Enough name mapping work → given name mapping ≡ r → NextCall sheet name mapping work s → s .number ≡ notSo
+    (mapping work : List ℕ) (s : End) → Enough name mapping work → given name mapping ≡ r → NextCall sheet name mapping work s → s .number ≡ no
 GoesOn sheet name r (q ∷ qs) =
     ((mapping work : List ℕ) (s : End) → Enough name mapping work → given name mapping ≡ r → NextCall sheet name mapping work s → Gives name mapping q s)
     × GoesOn sheet name q qs
 
 -- asking for the first and then for the next gives these
 abbrev pub Asking : List ℕ → List ℕ → List (List ℕ) → Type 0
-Asking sheet name [] = (mapping work : List ℕ) (s : End) → Enough name mapping work → FirstCall sheet name mapping work s → s .number ≡ notSo
+Asking sheet name [] = (mapping work : List ℕ) (s : End) → Enough name mapping work → FirstCall sheet name mapping work s → s .number ≡ no
 Asking sheet name (r ∷ rs) =
     ((mapping work : List ℕ) (s : End) → Enough name mapping work → FirstCall sheet name mapping work s → Gives name mapping r s)
     × GoesOn sheet name r rs

@@ -5,8 +5,8 @@ use mathlib.Core.List.{List, [], _∷_, _++_}
 use Prim.Native.Nat.{ℕ}
 use lib.ListN.{replicate}
 use Rattle.rules.specs.Limits.{wiped}
-use Rattle.rules.specs.Numbers.{notSo, givenNoReading}
-use Rattle.rules.specs.Refusal.{firstOf}
+use Rattle.rules.specs.Numbers.{no, noReading}
+use Rattle.rules.specs.Grounds.{firstOf}
 use Rattle.language.specs.Reading.{Pattern, Language}
 use Rattle.sheet.specs.Stands.{standsFor}
 use Rattle.reader.specs.Refusals.{mappingGrounds}
@@ -95,6 +95,6 @@ sheets =
 -- "After 'no more', next again is 33 for a name of one byte or more (zeros are no positions), and 1 again for an empty accepted name."
 pub record AfterNoMore : Type 0 where
   pub again : (sheet name mapping work : List ℕ) (b : ℕ) (s : End) → firstOf (mappingGrounds sheet (b ∷ name) (wiped mapping) work) ≡ none
-      → NextCall sheet (b ∷ name) (wiped mapping) work s → s .number ≡ givenNoReading
+      → NextCall sheet (b ∷ name) (wiped mapping) work s → s .number ≡ noReading
   pub empty : (sheet mapping work : List ℕ) (P : Pattern) (s : End) → firstOf (mappingGrounds sheet [] mapping work) ≡ none → standsFor sheet ≡ some P
-      → Language P [] → NextCall sheet [] mapping work s → s .number ≡ notSo
+      → Language P [] → NextCall sheet [] mapping work s → s .number ≡ no

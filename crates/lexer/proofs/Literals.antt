@@ -9,7 +9,7 @@ use lib.Dec.{eqb, leb}
 use lib.ListN.{drop}
 use borrow.Author.Tests.{leb-true, eqb-true}
 use Rattle.rules.specs.Limits.{outside}
-use Rattle.rules.specs.Numbers.{strangeByte, strangeRepeat}
+use Rattle.rules.specs.Numbers.{textByte, repeatFault}
 use Rattle.lexer.specs.Bytes.{bar, asterisk, leftParenthesis, rightParenthesis, backslash, leftBrace, rightBrace, comma, isMark}
 use Rattle.lexer.specs.Tokens.{Token, aLiteral, aBar, aStar, anOpen, aClose, aFault, Placed, placed, starts, Number, digits, noNumber, numberAt, Repeat, noRepeat, badRepeat, repeat, closed, counted, repeatAt, One, tok, wrong, literalOf, escapedOf, tokenOf, first, lex, tokensFrom}
 
@@ -20,7 +20,7 @@ Literal aBar = Unit {0}
 Literal aStar = Unit {0}
 Literal anOpen = Unit {0}
 Literal aClose = Unit {0}
-Literal (aFault k) = (k ≡ strangeByte) ⊎ (k ≡ strangeRepeat)
+Literal (aFault k) = (k ≡ textByte) ⊎ (k ≡ repeatFault)
 
 abbrev pub Writable : List Placed → Type 0
 Writable [] = Unit {0}
@@ -81,7 +81,7 @@ escaped-right : (s : List ℕ) → Right (escapedOf s)
 escaped-right [] = fault (inl refl)
 escaped-right (b ∷ s) = go (isMark b) refl
   where
-    go : (c : Bool) → isMark b ≡ c → Right (cond c (literalOf b 1 (repeatAt s)) (wrong strangeByte 0))
+    go : (c : Bool) → isMark b ≡ c → Right (cond c (literalOf b 1 (repeatAt s)) (wrong textByte 0))
     go true e = literal-right b 1 (repeatAt s) (mark-inside b e) (repeat-rising s)
     go false e = fault (inl refl)
 
@@ -95,7 +95,7 @@ token-right b s =
     pick true p q = p
     pick false p q = q
 
-    plain : (c : Bool) → outside b ≡ c → Right (cond c (wrong strangeByte 0) (literalOf b 0 (repeatAt s)))
+    plain : (c : Bool) → outside b ≡ c → Right (cond c (wrong textByte 0) (literalOf b 0 (repeatAt s)))
     plain true e = fault (inl refl)
     plain false e = literal-right b 0 (repeatAt s) e (repeat-rising s)
 

@@ -8,7 +8,7 @@ use lib.ListN.{length, getD, drop}
 use lib.Seq.{drop-drop, getD-drop}
 use lib.Dec.{leb}
 use borrow.Author.Tests.{leb-true}
-use Rattle.rules.specs.Numbers.{strangeRepeat}
+use Rattle.rules.specs.Numbers.{repeatFault}
 use Rattle.rules.proofs.Truth.{and-true-left, and-true-right}
 use Rattle.lexer.specs.declared.Literal.the-variants.{Of}
 use Rattle.lexer.specs.Bytes.{digitZero, digitNine, leftBrace, rightBrace, comma, isDigit}
@@ -42,18 +42,18 @@ module _ (t : List ℕ) (b at : ℕ) where
   repeat-absent e = rw e refl
 
   module _ (e : starts (drop at t) leftBrace ≡ true) where
-    pub repeat-first : numberAt (drop (at + 1) t) ≡ noNumber → refusedAs strangeRepeat at ≡ literalWith b at (repeatAt (drop at t))
+    pub repeat-first : numberAt (drop (at + 1) t) ≡ noNumber → refusedAs repeatFault at ≡ literalWith b at (repeatAt (drop at t))
     repeat-first d = rw (e, drop-drop 1 at t, d) refl
 
     module _ {x i : ℕ} (p : numberAt (drop (at + 1) t) ≡ digits x i) where
-      pub repeat-second : numberAt (drop (at + (i + 2)) t) ≡ noNumber → refusedAs strangeRepeat at ≡ literalWith b at (repeatAt (drop at t))
+      pub repeat-second : numberAt (drop (at + (i + 2)) t) ≡ noNumber → refusedAs repeatFault at ≡ literalWith b at (repeatAt (drop at t))
       repeat-second d = rw (e, drop-drop 1 at t, p, drop-drop (i + 2) at t, d) refl
 
       module _ {y j : ℕ} (q : numberAt (drop (at + (i + 2)) t) ≡ digits y j) where
         pub repeat-good : closesAt t (at + (i + 1)) (at + (i + j + 2)) x y ≡ true → Of b x y (at + (i + j + 3)) ≡ literalWith b at (repeatAt (drop at t))
         repeat-good d = rw (e, drop-drop 1 at t, p, drop-drop (i + 2) at t, q, drop-drop (i + 1) at t, drop-drop (i + j + 2) at t, d) refl
 
-        pub repeat-bad : closesAt t (at + (i + 1)) (at + (i + j + 2)) x y ≡ false → refusedAs strangeRepeat at ≡ literalWith b at (repeatAt (drop at t))
+        pub repeat-bad : closesAt t (at + (i + 1)) (at + (i + j + 2)) x y ≡ false → refusedAs repeatFault at ≡ literalWith b at (repeatAt (drop at t))
         repeat-bad d = rw (e, drop-drop 1 at t, p, drop-drop (i + 2) at t, q, drop-drop (i + 1) at t, drop-drop (i + j + 2) at t, d) refl
 
 -- the brace that closes a repeat stands in the text

@@ -12,7 +12,7 @@ use lib.Seq.{drop-drop, getD-drop}
 use lib.Dec.{ltb, leb, eqb}
 use borrow.Author.Tests.{lt-ltb, le-ltb, le-leb, lt-leb, ne-eqb, not-true}
 use Rattle.rules.specs.Limits.{lowestByte, highestByte, outside}
-use Rattle.rules.specs.Numbers.{strangeByte, strangeRepeat}
+use Rattle.rules.specs.Numbers.{textByte, repeatFault}
 use Rattle.rules.proofs.Truth.{and-true-left, and-true-right, or-false-left, or-false-right}
 use Rattle.lexer.specs.declared.Literal.{Literal}
 use Rattle.lexer.specs.declared.Literal.the-variants.{Of}
@@ -55,7 +55,7 @@ module _ (t : List ℕ) (at : ℕ) (u : unitAt (drop at t) ≡ true) (p : starts
       rw e (record { token = tokens-token t at unit-inside (aLiteral b 1 1) o g; further = omega arith; inside = w .3; least = omega arith; most = omega arith })
   taken b o badRepeat q e f g =
       let z : at + (o + 1) ≡ at + 1 + o = omega arith in
-      rw e (rw z at (tokens-wrong t at unit-inside strangeRepeat (o + 1) g))
+      rw e (rw z at (tokens-wrong t at unit-inside repeatFault (o + 1) g))
   taken b o (repeat x y n) q e f g =
       let w : LiteralFits (length t) (at + 1 + o) (Of b x y (at + 1 + o + n)) = rw e at f in
       let z : at + 1 + (o + n) ≡ at + 1 + o + n = omega arith in
@@ -72,28 +72,28 @@ module _ (t : List ℕ) (at : ℕ) (u : unitAt (drop at t) ≡ true) (p : starts
   fault-here : (k : ℕ) → tokenOf (getD t at 0) (drop (at + 1) t) ≡ wrong k 0 → LiteralIs t at (refusedAs k at)
   fault-here k e = rw (add-zero at) at (tokens-wrong t at unit-inside k 0 e)
 
-  pub literal-lone : getD t at 0 ≡ backslash → markAt (drop (at + 1) t) ≡ false → LiteralIs t at (refusedAs strangeByte at)
-  literal-lone c m = fault-here strangeByte (rw (c, m) refl)
+  pub literal-lone : getD t at 0 ≡ backslash → markAt (drop (at + 1) t) ≡ false → LiteralIs t at (refusedAs textByte at)
+  literal-lone c m = fault-here textByte (rw (c, m) refl)
 
-  pub literal-brace : getD t at 0 ≡ leftBrace → LiteralIs t at (refusedAs strangeRepeat at)
-  literal-brace d = fault-here strangeRepeat (rw d refl)
+  pub literal-brace : getD t at 0 ≡ leftBrace → LiteralIs t at (refusedAs repeatFault at)
+  literal-brace d = fault-here repeatFault (rw d refl)
 
-  pub literal-unbrace : getD t at 0 ≡ rightBrace → LiteralIs t at (refusedAs strangeRepeat at)
-  literal-unbrace d = fault-here strangeRepeat (rw d refl)
+  pub literal-unbrace : getD t at 0 ≡ rightBrace → LiteralIs t at (refusedAs repeatFault at)
+  literal-unbrace d = fault-here repeatFault (rw d refl)
 
   module _ (c : getD t at 0 ≡ backslash → ⊥) (d : getD t at 0 ≡ leftBrace → ⊥) (e : getD t at 0 ≡ rightBrace → ⊥) where
     -- past the marks
     past : {v w : Bool} → ltb (getD t at 0) lowestByte ≡ v → ltb highestByte (getD t at 0) ≡ w
-        → tokenOf (getD t at 0) (drop (at + 1) t) ≡ cond (v || w) (wrong strangeByte 0) (literalOf (getD t at 0) 0 (repeatAt (drop (at + 1) t)))
+        → tokenOf (getD t at 0) (drop (at + 1) t) ≡ cond (v || w) (wrong textByte 0) (literalOf (getD t at 0) 0 (repeatAt (drop (at + 1) t)))
     past f g =
         rw (here .no-bar, here .no-star, here .no-open, here .no-close, ne-eqb (getD t at 0) backslash c, ne-eqb (getD t at 0) leftBrace d, ne-eqb (getD t at 0) rightBrace e, f, g) refl
 
-    pub literal-low : getD t at 0 < lowestByte → LiteralIs t at (refusedAs strangeByte at)
-    literal-low f = fault-here strangeByte (past {w = ltb highestByte (getD t at 0)} (lt-ltb (getD t at 0) lowestByte f) refl)
+    pub literal-low : getD t at 0 < lowestByte → LiteralIs t at (refusedAs textByte at)
+    literal-low f = fault-here textByte (past {w = ltb highestByte (getD t at 0)} (lt-ltb (getD t at 0) lowestByte f) refl)
 
     module _ (f : lowestByte ≤ getD t at 0) where
-      pub literal-high : highestByte < getD t at 0 → LiteralIs t at (refusedAs strangeByte at)
-      literal-high g = fault-here strangeByte (past (le-ltb (getD t at 0) lowestByte f) (lt-ltb highestByte (getD t at 0) g))
+      pub literal-high : highestByte < getD t at 0 → LiteralIs t at (refusedAs textByte at)
+      literal-high g = fault-here textByte (past (le-ltb (getD t at 0) lowestByte f) (lt-ltb highestByte (getD t at 0) g))
 
       pub literal-plain : (q : Literal) → getD t at 0 ≤ highestByte → q ≡ literalWith (getD t at 0) (at + 1) (repeatAt (drop (at + 1) t))
           → LiteralFits (length t) (at + 1) q → LiteralIs t at q

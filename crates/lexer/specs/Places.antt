@@ -6,7 +6,7 @@ use Prim.Native.Nat.{ℕ, _+_, _<_, _≤_}
 use lib.Dec.{eqb, leb}
 use lib.ListN.{length, drop}
 use Rattle.rules.specs.Limits.{outside}
-use Rattle.rules.specs.Numbers.{strangeRepeat}
+use Rattle.rules.specs.Numbers.{repeatFault}
 use Rattle.lexer.specs.declared.Refusal.{Refusal}
 use Rattle.lexer.specs.declared.Figure.{Figure}
 use Rattle.lexer.specs.declared.Figure.the-variants.{Digits, Nothing}
@@ -56,7 +56,7 @@ refusedAs k i = Fault (record { number = k; place = i })
 -- the literal b before the place `at`, with the repeat that stands there
 abbrev pub literalWith : ℕ → ℕ → Repeat → Literal
 literalWith b at noRepeat = Of b 1 1 at
-literalWith b at badRepeat = refusedAs strangeRepeat at
+literalWith b at badRepeat = refusedAs repeatFault at
 literalWith b at (repeat x y n) = Of b x y (at + n)
 
 abbrev pub LiteralFits : ℕ → ℕ → Literal → Type 0

@@ -5,7 +5,7 @@ use Prim.Native.Nat.{ℕ, zero, suc, _+_, _-_, _*_}
 use lib.Dec.{eqb, leb}
 use lib.ListN.{drop, getD}
 use Rattle.rules.specs.Limits.{outside}
-use Rattle.rules.specs.Numbers.{strangeByte, strangeRepeat}
+use Rattle.rules.specs.Numbers.{textByte, repeatFault}
 use Rattle.lexer.specs.Bytes.{bar, asterisk, leftParenthesis, rightParenthesis, backslash, leftBrace, rightBrace, comma, digitZero, isMark, isDigit}
 
 -- a literal with its repeat {x,y} (alone: 1 to 1), the marks, and what is no token: 11 or 19
@@ -71,12 +71,12 @@ pub data One : Type 0 where
 -- a literal byte whose last byte lies o bytes on, and what follows it; a fault between braces is 19 at the {
 abbrev pub literalOf : ℕ → ℕ → Repeat → One
 literalOf b o noRepeat = tok (aLiteral b 1 1) o
-literalOf b o badRepeat = wrong strangeRepeat (o + 1)
+literalOf b o badRepeat = wrong repeatFault (o + 1)
 literalOf b o (repeat x y n) = tok (aLiteral b x y) (o + n)
 
 -- "A mark is written as a literal by a backslash before it"
 abbrev pub escapedOf : List ℕ → One
-escapedOf s = cond (markAt s) (literalOf (getD s 0 0) 1 (repeatAt (drop 1 s))) (wrong strangeByte 0)
+escapedOf s = cond (markAt s) (literalOf (getD s 0 0) 1 (repeatAt (drop 1 s))) (wrong textByte 0)
 
 -- b: the first byte, s: those after it
 abbrev pub tokenOf : ℕ → List ℕ → One
@@ -86,8 +86,8 @@ tokenOf b s =
     (cond (eqb b leftParenthesis) (tok anOpen 0)
     (cond (eqb b rightParenthesis) (tok aClose 0)
     (cond (eqb b backslash) (escapedOf s)
-    (cond (eqb b leftBrace || eqb b rightBrace) (wrong strangeRepeat 0)
-    (cond (outside b) (wrong strangeByte 0)
+    (cond (eqb b leftBrace || eqb b rightBrace) (wrong repeatFault 0)
+    (cond (outside b) (wrong textByte 0)
     (literalOf b 0 (repeatAt s))))))))
 
 -- the first token at place i, before the rest; nothing is read after a fault

@@ -9,8 +9,8 @@ ghost use Rattle.lexer.specs.Tokens.{starts, markAt, digitAt, numberAt, 
 ghost use Rattle.lexer.specs.Places.{startsUnit, unitAt, isPlain, plainAt, numberOf, FigureFits, closesAt, refusedAs, literalWith, LiteralFits, LiteralIs};
 use rules::HIGHEST_BYTE;
 use rules::LOWEST_BYTE;
-use rules::STRANGE_BYTE;
-use rules::STRANGE_REPEAT;
+use rules::REPEAT_FAULT;
+use rules::TEXT_BYTE;
 use rules::TEXT_LIMIT;
 use rules::wide;
 
@@ -197,16 +197,16 @@ fn repeated(text: &[u8], b: u8, at: usize) -> Literal
     if is(text, at, b'{') {
         let q = figure_at(text, at + 1);
         let Figure::Digits(x, i) = q else {
-            return fault(STRANGE_REPEAT, at);
+            return fault(REPEAT_FAULT, at);
         };
         let o = figure_at(text, at + (i + 2));
         let Figure::Digits(y, j) = o else {
-            return fault(STRANGE_REPEAT, at);
+            return fault(REPEAT_FAULT, at);
         };
         if closes(text, at + (i + 1), at + (i + j + 2), x, y) {
             return Literal::Of(b, x, y, at + (i + j + 3));
         }
-        return fault(STRANGE_REPEAT, at);
+        return fault(REPEAT_FAULT, at);
     }
     Literal::Of(b, 1, 1, at)
 }
@@ -221,19 +221,19 @@ pub fn literal_at(text: &[u8], at: usize) -> Literal
         if mark_at(text, at + 1) {
             return repeated(text, text[at + 1], at + 2);
         }
-        return fault(STRANGE_BYTE, at);
+        return fault(TEXT_BYTE, at);
     }
     if b == b'{' {
-        return fault(STRANGE_REPEAT, at);
+        return fault(REPEAT_FAULT, at);
     }
     if b == b'}' {
-        return fault(STRANGE_REPEAT, at);
+        return fault(REPEAT_FAULT, at);
     }
     if b < LOWEST_BYTE {
-        return fault(STRANGE_BYTE, at);
+        return fault(TEXT_BYTE, at);
     }
     if HIGHEST_BYTE < b {
-        return fault(STRANGE_BYTE, at);
+        return fault(TEXT_BYTE, at);
     }
     repeated(text, b, at + 1)
 }

@@ -8,8 +8,8 @@ use lib.ListN.{length, take, drop, length-append}
 use lib.Seq.{length-sets, take-at}
 use borrow.Author.Tests.{lt-ltb, le-ltb}
 use Rattle.rules.specs.Limits.{textLimit, openLimit, leafLimit, nodeLimit, wiped, filled}
-use Rattle.rules.specs.Numbers.{longText, manyLeaves, manyNodes, shortSheet}
-use Rattle.rules.specs.Refusal.{refused, answered}
+use Rattle.rules.specs.Numbers.{textLong, leavesMany, nodesMany, sheetShort}
+use Rattle.rules.specs.Grounds.{refused, answered}
 use Rattle.language.specs.Tree.{Tree}
 use Rattle.sheet.specs.Make.{leaves, postorder, sheetOf}
 use Rattle.sheet.proofs.Own.{length-leaves}
@@ -52,7 +52,7 @@ clean e d (placed i aClose ∷ ps) (going a s u) (g ∷ gs) t q = clean e (suc d
 clean e d (placed i (aFault k) ∷ ps) f gs t q = never q
 
 -- WHAT REFUSES
-pub refusal-long : (text : List ℕ) → textLimit < length text → textRefusal text ≡ some (at textLimit longText)
+pub refusal-long : (text : List ℕ) → textLimit < length text → textRefusal text ≡ some (at textLimit textLong)
 refusal-long text h = rw (lt-ltb textLimit (length text) h) refl
 
 module _ (text : List ℕ) (h : length text ≤ textLimit) where
@@ -72,10 +72,10 @@ module _ (text : List ℕ) (h : length text ≤ textLimit) where
     leaves-total = length-leaves t ∙ known (parse-iff text t .0 q) (writable text 0) .sized
 
     -- 16
-    pub refusal-leaves : (p : ℕ) → leafLimit < length (leaves t) → PassesAt text p → textRefusal text ≡ some (at p manyLeaves)
+    pub refusal-leaves : (p : ℕ) → leafLimit < length (leaves t) → PassesAt text p → textRefusal text ≡ some (at p leavesMany)
     refusal-leaves p g w = go (passing 0 (tokensFrom text 0)) refl
       where
-        go : (o : Option Fault) → passing 0 (tokensFrom text 0) ≡ o → textRefusal text ≡ some (at p manyLeaves)
+        go : (o : Option Fault) → passing 0 (tokensFrom text 0) ≡ o → textRefusal text ≡ some (at p leavesMany)
         go none e = absurd (omega (arith, passed-total 0 (tokensFrom text 0) (omega arith) e, leaves-total))
         go (some f) e = rw (le-ltb textLimit (length text) h, tokens-clean, q, e) (ap some (w f e))
 
@@ -84,7 +84,7 @@ module _ (text : List ℕ) (h : length text ≤ textLimit) where
       few = passing-none 0 (tokensFrom text 0) (omega (arith, leaves-total))
 
       -- 17
-      pub refusal-nodes : nodeLimit < length (postorder t) → textRefusal text ≡ some (at (length text) manyNodes)
+      pub refusal-nodes : nodeLimit < length (postorder t) → textRefusal text ≡ some (at (length text) nodesMany)
       refusal-nodes k = rw (le-ltb textLimit (length text) h, tokens-clean, q, few, lt-ltb nodeLimit (length (postorder t)) k) refl
 
       pub no-refusal : length (postorder t) ≤ nodeLimit → textRefusal text ≡ none
@@ -113,11 +113,11 @@ module _ {text xs nodes bs lits : List ℕ} {m l : ℕ} (h : length text ≤ tex
   leaf-count = omega (arith, v .lits .count)
 
   module _ {buffer after : List ℕ} {r : SheetAnswer} where
-    pub call-leaves : {p : ℕ} → leafLimit < l → PassesAt text p → r ≡ Refused (record { number = manyLeaves; place = p }) → after ≡ wiped buffer
+    pub call-leaves : {p : ℕ} → leafLimit < l → PassesAt text p → r ≡ Refused (record { number = leavesMany; place = p }) → after ≡ wiped buffer
         → SheetCall text buffer (sheetEnd r after)
     call-leaves {p} g w = call-refused (refusal-leaves text h (v .made) (v .found) p (omega (arith, leaf-count)) w)
 
-    pub call-nodes : l ≤ leafLimit → nodeLimit < m → r ≡ Refused (record { number = manyNodes; place = length text }) → after ≡ wiped buffer
+    pub call-nodes : l ≤ leafLimit → nodeLimit < m → r ≡ Refused (record { number = nodesMany; place = length text }) → after ≡ wiped buffer
         → SheetCall text buffer (sheetEnd r after)
     call-nodes g k = call-refused (refusal-nodes text h (v .made) (v .found) (omega (arith, leaf-count)) (omega (arith, node-count)))
 
@@ -129,7 +129,7 @@ module _ {text xs nodes bs lits : List ℕ} {m l : ℕ} (h : length text ≤ tex
       sheet-length : length (sheetOf (v .made)) ≡ 3 + l + m
       sheet-length = omega (arith, length-append (leaves (v .made)) (length (postorder (v .made)) ∷ postorder (v .made)), leaf-count, node-count)
 
-      pub call-short : {buffer after : List ℕ} {r : SheetAnswer} → length buffer < 3 + l + m → r ≡ Refused (record { number = shortSheet; place = 3 + l + m }) → after ≡ wiped buffer
+      pub call-short : {buffer after : List ℕ} {r : SheetAnswer} → length buffer < 3 + l + m → r ≡ Refused (record { number = sheetShort; place = 3 + l + m }) → after ≡ wiped buffer
           → SheetCall text buffer (sheetEnd r after)
       call-short {buffer} c q z =
           let s : length buffer < length (sheetOf (v .made)) = omega (arith, sheet-length) in

@@ -9,8 +9,8 @@ use lib.Dec.{ltb, eqb}
 use lib.ListN.{length, getD, drop}
 use borrow.Author.Tests.{lt-ltb, le-ltb}
 use Rattle.rules.specs.Limits.{leafLimit}
-use Rattle.rules.specs.Numbers.{manyLeaves}
-use Rattle.rules.proofs.Refusal.{some-eq, no-some}
+use Rattle.rules.specs.Numbers.{leavesMany}
+use Rattle.rules.proofs.Grounds.{some-eq, no-some}
 use Rattle.lexer.specs.declared.Refusal.{Refusal}
 use Rattle.lexer.specs.Bytes.{bar, asterisk, leftParenthesis, rightParenthesis}
 use Rattle.lexer.specs.Tokens.{Placed, placed, aLiteral, aBar, aStar, anOpen, aClose, starts, tokensFrom}
@@ -103,12 +103,12 @@ module _ (t : List ℕ) (i n : ℕ) (e : passing n (tokensFrom t i) ≡ passing 
   passes-end h = passes-none (ap (passing n) (tokens-end t i h))
 
   module _ {next y : ℕ} (s : Stepped t i next y) where
-    here : passing n (tokensFrom t i) ≡ cond (ltb leafLimit (n + y)) (some (at i manyLeaves)) (passing (n + y) (tokensFrom t next))
+    here : passing n (tokensFrom t i) ≡ cond (ltb leafLimit (n + y)) (some (at i leavesMany)) (passing (n + y) (tokensFrom t next))
     here = rw (s .front, s .leaves) refl
 
     pub passes-here : leafLimit < n + y → PassesAt t i
     passes-here h f p =
-        let w : passing n (tokensFrom t i) ≡ some (at i manyLeaves) = here ∙ rw (lt-ltb leafLimit (n + y) h) refl in
+        let w : passing n (tokensFrom t i) ≡ some (at i leavesMany) = here ∙ rw (lt-ltb leafLimit (n + y) h) refl in
         sym (some-eq (sym w ∙ e ∙ p))
 
     pub passes-later : n + y ≤ leafLimit → passing (n + y) (tokensFrom t next) ≡ passing 0 (tokensFrom t 0)

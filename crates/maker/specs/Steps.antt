@@ -4,7 +4,7 @@ use mathlib.Core.Option.{none, some}
 use mathlib.Core.List.{List, _∷_, _++_}
 use Prim.Native.Nat.{ℕ, _<_, _≤_}
 use lib.ListN.{length, take}
-use Rattle.rules.specs.Numbers.{manyLeaves}
+use Rattle.rules.specs.Numbers.{leavesMany}
 use Rattle.lexer.specs.Tokens.{Token, Placed, placed, tokensFrom}
 use Rattle.lexer.specs.Places.{mostCopies, Faulty}
 use Rattle.maker.specs.declared.Step.{Step}
@@ -34,7 +34,7 @@ FirstWalk t (Wrong f) = lexical (tokensFrom t 0) ≡ some (faultOf f)
 
 -- where the leaves pass the limit, they do so here
 abbrev pub PassesAt : List ℕ → ℕ → Type 0
-PassesAt t p = (f : Fault) → passing 0 (tokensFrom t 0) ≡ some f → f ≡ at p manyLeaves
+PassesAt t p = (f : Fault) → passing 0 (tokensFrom t 0) ≡ some f → f ≡ at p leavesMany
 
 -- a sheet's sections, each after its count
 abbrev pub sections : List ℕ → ℕ → List ℕ → ℕ → List ℕ

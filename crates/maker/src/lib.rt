@@ -18,12 +18,12 @@ use lexer::literal_at;
 use lexer::unit_at;
 use rules::FORM;
 use rules::LEAF_LIMIT;
-use rules::LONG_TEXT;
-use rules::MANY_LEAVES;
-use rules::MANY_NODES;
+use rules::LEAVES_MANY;
 use rules::NODE_LIMIT;
-use rules::SHORT_SHEET;
+use rules::NODES_MANY;
+use rules::SHEET_SHORT;
 use rules::TEXT_LIMIT;
+use rules::TEXT_LONG;
 use text::Read;
 use text::read_text;
 
@@ -152,14 +152,14 @@ fn answer(
 {
     if LEAF_LIMIT < l {
         let p = passing_place(text);
-        return refuse(sheet, MANY_LEAVES, p);
+        return refuse(sheet, LEAVES_MANY, p);
     }
     if NODE_LIMIT < m {
-        return refuse(sheet, MANY_NODES, text.len());
+        return refuse(sheet, NODES_MANY, text.len());
     }
     let needed = 3 + l + m;
     if sheet.len() < needed {
-        return refuse(sheet, SHORT_SHEET, needed);
+        return refuse(sheet, SHEET_SHORT, needed);
     }
     lay(sheet, lits, l, nodes, m);
     SheetAnswer::Made(needed)
@@ -170,7 +170,7 @@ pub fn make(text: &[u8], sheet: &mut [u8]) -> SheetAnswer
     ensures { λ r. ⌜ SheetCall (now (text .entry)) (now (sheet .entry)) (sheetEnd r (now (sheet .exit))) ⌝ }
 {
     if TEXT_LIMIT < text.len() {
-        return refuse(sheet, LONG_TEXT, TEXT_LIMIT);
+        return refuse(sheet, TEXT_LONG, TEXT_LIMIT);
     }
     let mut nodes = [0u8; NODE_LIMIT];
     let mut lits = [0u8; LEAF_LIMIT];

@@ -3,43 +3,43 @@ use mathlib.Core.Path.{_≡_, refl, ap, sym, _∙_}
 use mathlib.Core.Bool.{cond}
 use Prim.Native.Nat.{ℕ}
 use lib.Dec.{eqb}
-use Rattle.rules.specs.Numbers.{done, notSo, otherForm, otherLength, manyLiterals, strangeEntry, fewWaiting, notOneLeft, manyWaiting, otherLeaves, longName, shortMapping, shortWork}
-use Rattle.sheet.specs.declared.SheetFault.the-variants.{OtherForm, OtherLength, ManyLiterals, StrangeEntry, FewWaiting, NotOneLeft, ManyWaiting, OtherLeaves}
+use Rattle.rules.specs.Numbers.{done, no, sheetForm, sheetLength, sheetLeaves, sheetByte, waitingFew, waitingEnd, waitingMany, leavesUnequal, nameLong, mappingShort, workShort}
+use Rattle.sheet.specs.declared.SheetFault.the-variants.{SheetForm, SheetLength, SheetLeaves, SheetByte, WaitingFew, WaitingEnd, WaitingMany, LeavesUnequal}
 use Rattle.reader.specs.Answer.{numberOf}
 use Rattle.reader.specs.declared.Answer.{Answer}
-use Rattle.reader.specs.declared.Answer.the-variants.{Done, NotSo, Sheet, LongName, ShortMapping, ShortWork, GivenNoReading}
+use Rattle.reader.specs.declared.Answer.the-variants.{Done, No, Sheet, NameLong, MappingShort, WorkShort, NoReading}
 
 abbrev answerFor : ℕ → Answer
 answerFor n =
     cond (eqb n done) Done
-    (cond (eqb n notSo) NotSo
-    (cond (eqb n otherForm) (Sheet OtherForm)
-    (cond (eqb n otherLength) (Sheet OtherLength)
-    (cond (eqb n manyLiterals) (Sheet ManyLiterals)
-    (cond (eqb n strangeEntry) (Sheet StrangeEntry)
-    (cond (eqb n fewWaiting) (Sheet FewWaiting)
-    (cond (eqb n notOneLeft) (Sheet NotOneLeft)
-    (cond (eqb n manyWaiting) (Sheet ManyWaiting)
-    (cond (eqb n otherLeaves) (Sheet OtherLeaves)
-    (cond (eqb n longName) LongName
-    (cond (eqb n shortMapping) ShortMapping
-    (cond (eqb n shortWork) ShortWork GivenNoReading))))))))))))
+    (cond (eqb n no) No
+    (cond (eqb n sheetForm) (Sheet SheetForm)
+    (cond (eqb n sheetLength) (Sheet SheetLength)
+    (cond (eqb n sheetLeaves) (Sheet SheetLeaves)
+    (cond (eqb n sheetByte) (Sheet SheetByte)
+    (cond (eqb n waitingFew) (Sheet WaitingFew)
+    (cond (eqb n waitingEnd) (Sheet WaitingEnd)
+    (cond (eqb n waitingMany) (Sheet WaitingMany)
+    (cond (eqb n leavesUnequal) (Sheet LeavesUnequal)
+    (cond (eqb n nameLong) NameLong
+    (cond (eqb n mappingShort) MappingShort
+    (cond (eqb n workShort) WorkShort NoReading))))))))))))
 
 back : (a : Answer) → answerFor (numberOf a) ≡ a
 back Done = refl
-back NotSo = refl
-back (Sheet OtherForm) = refl
-back (Sheet OtherLength) = refl
-back (Sheet ManyLiterals) = refl
-back (Sheet StrangeEntry) = refl
-back (Sheet FewWaiting) = refl
-back (Sheet NotOneLeft) = refl
-back (Sheet ManyWaiting) = refl
-back (Sheet OtherLeaves) = refl
-back LongName = refl
-back ShortMapping = refl
-back ShortWork = refl
-back GivenNoReading = refl
+back No = refl
+back (Sheet SheetForm) = refl
+back (Sheet SheetLength) = refl
+back (Sheet SheetLeaves) = refl
+back (Sheet SheetByte) = refl
+back (Sheet WaitingFew) = refl
+back (Sheet WaitingEnd) = refl
+back (Sheet WaitingMany) = refl
+back (Sheet LeavesUnequal) = refl
+back NameLong = refl
+back MappingShort = refl
+back WorkShort = refl
+back NoReading = refl
 
 pub answer-known : (a b : Answer) → numberOf a ≡ numberOf b → a ≡ b
 answer-known a b e = sym (back a) ∙ ap answerFor e ∙ back b

@@ -7,7 +7,7 @@ use Prim.Native.Nat.{ℕ, _+_, _-_, _≤_}
 use native.Mathlib.Omega.{arith}
 use lib.ListN.{length, take, drop, length-replicate}
 use Rattle.rules.specs.Limits.{wiped, filled}
-use Rattle.rules.specs.Refusal.{firstOf, refused, answered}
+use Rattle.rules.specs.Grounds.{firstOf, refused, answered}
 use Rattle.language.specs.Tree.{size}
 use Rattle.language.specs.Local.{Numbered}
 use Rattle.language.specs.Reading.{Pattern, Reading}
@@ -19,15 +19,15 @@ use Rattle.sheet.specs.Stands.{standsFor}
 use Rattle.rows.specs.Rows.{rowAt}
 use Rattle.rows.proofs.Live.{T-true}
 use Rattle.reader.specs.Refusals.{mappingGrounds}
-use Rattle.reader.specs.Outcome.{cleared, given, AcceptWent, accepted, notIn, AcceptCall, FirstWent, found, absent, FirstCall, NextWent, foundNext, noMore, noReading, NextCall, CheckWent, right, wrong, CheckCall}
+use Rattle.reader.specs.Outcome.{cleared, given, AcceptWent, accepted, notIn, AcceptCall, FirstWent, found, absent, FirstCall, NextWent, foundNext, noMore, unread, NextCall, CheckWent, right, wrong, CheckCall}
 use Rattle.reader.specs.Answer.{endOf}
 use Rattle.reader.specs.Made.{reasonOf, FirstMade, NextMade, answerOf, keptBy}
 use Rattle.reader.specs.declared.Answer.{Answer}
-use Rattle.reader.specs.declared.Answer.the-variants.{Done, NotSo}
+use Rattle.reader.specs.declared.Answer.the-variants.{Done, No}
 use Rattle.reader.specs.declared.Test.{Test}
 use Rattle.reader.specs.declared.Test.the-variants.{Refused}
 use Rattle.reader.specs.declared.Step.{Step}
-use Rattle.reader.specs.declared.Step.the-variants.{Found, NoMore, NoReading}
+use Rattle.reader.specs.declared.Step.the-variants.{Found, NoMore, Unread}
 use Rattle.reader.proofs.Settled.{pattern-of}
 use Rattle.reader.proofs.Tests.{Fit, refusal, accept-grounds, wiped-grounds, wiped-fit}
 use Rattle.reader.proofs.Areas.{cleared-whole, filled-whole, filled-none, back, rest-wiped}
@@ -42,7 +42,7 @@ fails d e a = rw e at (d .from a)
 -- the answer to a question
 abbrev pub said : Bool → Answer
 said true = Done
-said false = NotSo
+said false = No
 
 -- WHAT THE SEARCHES FOUND, over the pattern that the sheet stands for
 module _ (sheet name mapping work : List ℕ) (P : Pattern) (x : standsFor sheet ≡ some P) (n : Numbered 1 (1 + size (P .tree)) (P .tree)) where
@@ -66,14 +66,14 @@ module _ (sheet name mapping work : List ℕ) (P : Pattern) (x : standsFor sheet
   there g (moved m) = foundNext x g m
 
   nowhere : Reading P name (given name mapping) → Next (Reading P name) (given name mapping) none
-      → NextWent sheet name mapping work (endOf NotSo (wiped mapping) (cleared name work))
+      → NextWent sheet name mapping work (endOf No (wiped mapping) (cleared name work))
   nowhere g (stuck m) = noMore x g m
 
   next-is : (after : List ℕ) → length after ≡ length mapping → (s : Step) → NextMade P name mapping after s
       → NextWent sheet name mapping work (endOf (answerOf s) (filled after (take (keptBy s (length name)) after)) (cleared name work))
   next-is after l Found (a, m) = rw l (there (read-is a) (rw m at (next-right P n name (given name mapping) (read-is a))))
   next-is after l NoMore (a, m) = rw (filled-none after, l) (nowhere (read-is a) (rw m at (next-right P n name (given name mapping) (read-is a))))
-  next-is after l NoReading a = rw (filled-none after, l) (noReading x (not-read a))
+  next-is after l Unread a = rw (filled-none after, l) (unread x (not-read a))
 
   check-is : (b : Bool) → isReading P name (given name mapping) ≡ b → CheckWent sheet name mapping work (endOf (said b) mapping (cleared name work))
   check-is true e = right x (read-is e)

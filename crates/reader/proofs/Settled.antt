@@ -5,8 +5,8 @@ use mathlib.Core.List.{List, []}
 use Prim.Native.Nat.{ℕ, _+_}
 use Rattle.rules.specs.Limits.{wiped, filled, stored}
 use Rattle.rules.specs.Numbers.{done}
-use Rattle.rules.specs.Refusal.{firstOf}
-use Rattle.rules.proofs.Refusal.{some-eq, front-part, settled, ends}
+use Rattle.rules.specs.Grounds.{firstOf}
+use Rattle.rules.proofs.Grounds.{some-eq, front-part, settled, ends}
 use Rattle.language.specs.Tree.{size}
 use Rattle.language.specs.Reading.{Pattern, Reading}
 use Rattle.language.specs.Search.{accepts, isReading, nextReading}
@@ -19,7 +19,7 @@ use Rattle.sheet.specs.Refusals.{sheetGrounds, sheetRefusal}
 use Rattle.sheet.specs.Stands.{standsFor}
 use Rattle.sheet.proofs.Accepted.{accepted-meant, standing}
 use Rattle.reader.specs.Refusals.{nameGrounds, mappingGrounds, bareGrounds, acceptGrounds}
-use Rattle.reader.specs.Outcome.{End, refusedWith, answeredWith, given, AcceptWent, accepted, notIn, AcceptCall, FirstWent, found, absent, FirstCall, NextWent, foundNext, noMore, noReading, NextCall, CheckWent, right, wrong, CheckCall}
+use Rattle.reader.specs.Outcome.{End, refusedWith, answeredWith, given, AcceptWent, accepted, notIn, AcceptCall, FirstWent, found, absent, FirstCall, NextWent, foundNext, noMore, unread, NextCall, CheckWent, right, wrong, CheckCall}
 
 -- a sheet that is not refused stands for a pattern numbered from 1
 pub pattern-of : (sheet : List ℕ) → sheetRefusal sheet ≡ none → (P : Pattern) × (standsFor sheet ≡ some P) × Numbered 1 (1 + size (P .tree)) (P .tree)
@@ -43,13 +43,13 @@ module _ (sheet name mapping work : List ℕ) where
   first-same s s′ (absent x n) (absent y m) = refl
 
   next-same : (s s′ : End) → NextWent sheet name mapping work s → NextWent sheet name mapping work s′ → s ≡ s′
-  next-same s s′ (noReading x n) (noReading y m) = refl
-  next-same s s′ (noReading x n) (foundNext y g a) = absurd (n (rw (same-pattern y x) at g))
-  next-same s s′ (noReading x n) (noMore y g a) = absurd (n (rw (same-pattern y x) at g))
-  next-same s s′ (foundNext x g a) (noReading y n) = absurd (n (rw (same-pattern x y) at g))
+  next-same s s′ (unread x n) (unread y m) = refl
+  next-same s s′ (unread x n) (foundNext y g a) = absurd (n (rw (same-pattern y x) at g))
+  next-same s s′ (unread x n) (noMore y g a) = absurd (n (rw (same-pattern y x) at g))
+  next-same s s′ (foundNext x g a) (unread y n) = absurd (n (rw (same-pattern x y) at g))
   next-same s s′ (foundNext x g a) (foundNext y h b) = ap (λ (r : List ℕ). answeredWith name work done (filled mapping (stored r))) (least-unique a (rw (same-pattern y x) at b))
   next-same s s′ (foundNext {r = r} x g a) (noMore y h n) = absurd (n r (rw (same-pattern x y) at (a .has)))
-  next-same s s′ (noMore x g a) (noReading y n) = absurd (n (rw (same-pattern x y) at g))
+  next-same s s′ (noMore x g a) (unread y n) = absurd (n (rw (same-pattern x y) at g))
   next-same s s′ (noMore x g n) (foundNext {r = r} y h a) = absurd (n r (rw (same-pattern y x) at (a .has)))
   next-same s s′ (noMore x g a) (noMore y h b) = refl
 
@@ -100,7 +100,7 @@ module _ (sheet name mapping work : List ℕ) where
       go e =
           let (P, x, n) = pattern-of sheet (front-part (sheetGrounds sheet) (nameGrounds name mapping work) e) in
           let w = given name mapping in
-          either (isReading P name w) (reading-decides P n name w) (λ g. at P x g (nextReading P name w) (next-right P n name w g)) (λ g. (_, noReading x g))
+          either (isReading P name w) (reading-decides P n name w) (λ g. at P x g (nextReading P name w) (next-right P n name w g)) (λ g. (_, unread x g))
 
   pub check-ends : (s : End) × CheckCall sheet name mapping work s
   check-ends = ends (firstOf (mappingGrounds sheet name mapping work)) (refusedWith mapping work) (CheckWent sheet name mapping work) go

@@ -9,9 +9,9 @@ use lib.Dec.{ltb}
 use lib.ListN.{length, length-replicate}
 use borrow.Author.Tests.{ltb-false, lt-ltb, le-ltb}
 use Rattle.rules.specs.Limits.{nameLimit, entrySize, areaFor, wiped}
-use Rattle.rules.specs.Numbers.{longName, shortMapping, shortWork}
-use Rattle.rules.specs.Refusal.{because, firstOf}
-use Rattle.rules.proofs.Refusal.{passed, not-because, first-part, later-part, front-part}
+use Rattle.rules.specs.Numbers.{nameLong, mappingShort, workShort}
+use Rattle.rules.specs.Grounds.{because, firstOf}
+use Rattle.rules.proofs.Grounds.{passed, not-because, first-part, later-part, front-part}
 use Rattle.sheet.specs.Answer.{faultNumber, refusalOf}
 use Rattle.sheet.specs.Refusals.{sheetGrounds, sheetRefusal}
 use Rattle.sheet.specs.declared.SheetFault.{SheetFault}
@@ -27,18 +27,18 @@ use Rattle.reader.specs.declared.Test.the-variants as tests
 
 -- 30, 31 and 32
 module _ (name mapping work : List ℕ) where
-  pub name-long : nameLimit < length name → some longName ≡ firstOf (nameGrounds name mapping work)
+  pub name-long : nameLimit < length name → some nameLong ≡ firstOf (nameGrounds name mapping work)
   name-long h = rw (lt-ltb nameLimit (length name) h) refl
 
   module _ (short : length name ≤ nameLimit) where
-    pub mapping-short : length mapping < length name → some shortMapping ≡ firstOf (nameGrounds name mapping work)
+    pub mapping-short : length mapping < length name → some mappingShort ≡ firstOf (nameGrounds name mapping work)
     mapping-short h = rw (le-ltb nameLimit (length name) short, lt-ltb (length mapping) (entrySize * length name) (omega arith)) refl
 
     module _ (held : length name ≤ length mapping) where
       enough : ltb (length mapping) (entrySize * length name) ≡ false
       enough = le-ltb (length mapping) (entrySize * length name) (omega arith)
 
-      pub work-short : length work < areaFor name → some shortWork ≡ firstOf (nameGrounds name mapping work)
+      pub work-short : length work < areaFor name → some workShort ≡ firstOf (nameGrounds name mapping work)
       work-short h = rw (le-ltb nameLimit (length name) short, enough, lt-ltb (length work) (areaFor name) h) refl
 
       pub name-fits : areaFor name ≤ length work → none ≡ firstOf (nameGrounds name mapping work)
@@ -70,13 +70,13 @@ module _ {sheet name mapping work : List ℕ} where
   grounds-fit e =
       let a = front-part (sheetGrounds sheet) (nameGrounds name mapping work) e in
       let (p, (q, (r, u))) = passed (nameGrounds name mapping work) (sym (later-part (sheetGrounds sheet) (nameGrounds name mapping work) a) ∙ e) in
-      let m = ltb-false (length mapping) (entrySize * length name) (not-because (ltb (length mapping) (entrySize * length name)) shortMapping q) in
+      let m = ltb-false (length mapping) (entrySize * length name) (not-because (ltb (length mapping) (entrySize * length name)) mappingShort q) in
       record {
         passed = e;
         accepted = a;
-        short = ltb-false nameLimit (length name) (not-because (ltb nameLimit (length name)) longName p);
+        short = ltb-false nameLimit (length name) (not-because (ltb nameLimit (length name)) nameLong p);
         held = omega arith;
-        room = ltb-false (length work) (areaFor name) (not-because (ltb (length work) (areaFor name)) shortWork r);
+        room = ltb-false (length work) (areaFor name) (not-because (ltb (length work) (areaFor name)) workShort r);
       }
 
   pub fit : {t : Test} → reasonOf t ≡ firstOf (mappingGrounds sheet name mapping work) → t ≡ Passed → Fit sheet name mapping work
@@ -101,4 +101,4 @@ left-out (some k ∷ gs) g hs = refl
 pub accept-grounds : (sheet name work : List ℕ) → firstOf (mappingGrounds sheet name name work) ≡ firstOf (acceptGrounds sheet name work)
 accept-grounds sheet name work =
     rw (le-ltb (length name) (entrySize * length name) (omega arith))
-    (left-out (sheetGrounds sheet) (because (ltb nameLimit (length name)) longName) (because (ltb (length work) (areaFor name)) shortWork ∷ []))
+    (left-out (sheetGrounds sheet) (because (ltb nameLimit (length name)) nameLong) (because (ltb (length work) (areaFor name)) workShort ∷ []))

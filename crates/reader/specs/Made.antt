@@ -10,11 +10,11 @@ use Rattle.language.specs.Search.{accepts, firstReading, isReading, nextReading
 use Rattle.reader.specs.Outcome.{given}
 use Rattle.reader.specs.Answer.{numberOf}
 use Rattle.reader.specs.declared.Answer.{Answer}
-use Rattle.reader.specs.declared.Answer.the-variants.{Done, NotSo, GivenNoReading}
+use Rattle.reader.specs.declared.Answer.the-variants.{Done, No, NoReading}
 use Rattle.reader.specs.declared.Test.{Test}
 use Rattle.reader.specs.declared.Test.the-variants.{Passed, Refused}
 use Rattle.reader.specs.declared.Step.{Step}
-use Rattle.reader.specs.declared.Step.the-variants.{Found, NoMore, NoReading}
+use Rattle.reader.specs.declared.Step.the-variants.{Found, NoMore, Unread}
 
 -- why a call is refused, if it is
 abbrev pub reasonOf : Test → Option ℕ
@@ -31,15 +31,15 @@ FirstMade P name mapping after false = (accepts P name ≡ false) × (after ≡ 
 abbrev pub NextMade : Pattern → List ℕ → List ℕ → List ℕ → Step → Type 0
 NextMade P name mapping after Found = (isReading P name (given name mapping) ≡ true) × (nextReading P name (given name mapping) ≡ some (take (length name) after))
 NextMade P name mapping after NoMore = (isReading P name (given name mapping) ≡ true) × (nextReading P name (given name mapping) ≡ none)
-NextMade P name mapping after NoReading = isReading P name (given name mapping) ≡ false
+NextMade P name mapping after Unread = isReading P name (given name mapping) ≡ false
 
 -- the answer for it, and how many of n entries it leaves in the mapping
 abbrev pub answerOf : Step → Answer
 answerOf Found = Done
-answerOf NoMore = NotSo
-answerOf NoReading = GivenNoReading
+answerOf NoMore = No
+answerOf Unread = NoReading
 
 abbrev pub keptBy : Step → ℕ → ℕ
 keptBy Found n = n
 keptBy NoMore n = 0
-keptBy NoReading n = 0
+keptBy Unread n = 0

@@ -5,8 +5,8 @@ use mathlib.Core.List.{List, [], _++_}
 use Prim.Native.Nat.{ℕ}
 use lib.ListN.{length, drop, replicate}
 use Rattle.rules.specs.Limits.{areaFor, stored, entries, wiped, filled}
-use Rattle.rules.specs.Numbers.{done, notSo, givenNoReading}
-use Rattle.rules.specs.Refusal.{firstOf, Call}
+use Rattle.rules.specs.Numbers.{done, no, noReading}
+use Rattle.rules.specs.Grounds.{firstOf, Call}
 use Rattle.language.specs.Reading.{Pattern, Language, Reading}
 use Rattle.language.specs.Order.{FirstReading, NoReading, NextReading, NoMore}
 use Rattle.sheet.specs.Stands.{standsFor}
@@ -38,7 +38,7 @@ pub data AcceptWent (sheet name work : List ℕ) : End → Type 0 where
   accepted : {P : Pattern} → standsFor sheet ≡ some P → Language P name
       → AcceptWent sheet name work (answeredWith name work done [])
   notIn : {P : Pattern} → standsFor sheet ≡ some P → (Language P name → ⊥)
-      → AcceptWent sheet name work (answeredWith name work notSo [])
+      → AcceptWent sheet name work (answeredWith name work no [])
 
 abbrev pub AcceptCall : List ℕ → List ℕ → List ℕ → End → Type 0
 AcceptCall sheet name work = Call (firstOf (acceptGrounds sheet name work)) (refusedWith [] work) (AcceptWent sheet name work)
@@ -48,7 +48,7 @@ pub data FirstWent (sheet name mapping work : List ℕ) : End → Type 0 where
   found : {P : Pattern} {r : List ℕ} → standsFor sheet ≡ some P → FirstReading P name r
       → FirstWent sheet name mapping work (answeredWith name work done (filled mapping (stored r)))
   absent : {P : Pattern} → standsFor sheet ≡ some P → NoReading P name
-      → FirstWent sheet name mapping work (answeredWith name work notSo (wiped mapping))
+      → FirstWent sheet name mapping work (answeredWith name work no (wiped mapping))
 
 abbrev pub FirstCall : List ℕ → List ℕ → List ℕ → List ℕ → End → Type 0
 FirstCall sheet name mapping work =
@@ -60,9 +60,9 @@ pub data NextWent (sheet name mapping work : List ℕ) : End → Type 0 where
       → NextReading P name (given name mapping) r
       → NextWent sheet name mapping work (answeredWith name work done (filled mapping (stored r)))
   noMore : {P : Pattern} → standsFor sheet ≡ some P → Reading P name (given name mapping) → NoMore P name (given name mapping)
-      → NextWent sheet name mapping work (answeredWith name work notSo (wiped mapping))
-  noReading : {P : Pattern} → standsFor sheet ≡ some P → (Reading P name (given name mapping) → ⊥)
-      → NextWent sheet name mapping work (answeredWith name work givenNoReading (wiped mapping))
+      → NextWent sheet name mapping work (answeredWith name work no (wiped mapping))
+  unread : {P : Pattern} → standsFor sheet ≡ some P → (Reading P name (given name mapping) → ⊥)
+      → NextWent sheet name mapping work (answeredWith name work noReading (wiped mapping))
 
 abbrev pub NextCall : List ℕ → List ℕ → List ℕ → List ℕ → End → Type 0
 NextCall sheet name mapping work =
@@ -73,7 +73,7 @@ pub data CheckWent (sheet name mapping work : List ℕ) : End → Type 0 where
   right : {P : Pattern} → standsFor sheet ≡ some P → Reading P name (given name mapping)
       → CheckWent sheet name mapping work (answeredWith name work done mapping)
   wrong : {P : Pattern} → standsFor sheet ≡ some P → (Reading P name (given name mapping) → ⊥)
-      → CheckWent sheet name mapping work (answeredWith name work notSo mapping)
+      → CheckWent sheet name mapping work (answeredWith name work no mapping)
 
 abbrev pub CheckCall : List ℕ → List ℕ → List ℕ → List ℕ → End → Type 0
 CheckCall sheet name mapping work =

@@ -5,16 +5,16 @@ use Prim.Native.Nat.{ℕ, _*_}
 use lib.Dec.{ltb}
 use lib.ListN.{length}
 use Rattle.rules.specs.Limits.{nameLimit, entrySize, areaFor}
-use Rattle.rules.specs.Numbers.{longName, shortMapping, shortWork}
-use Rattle.rules.specs.Refusal.{because}
+use Rattle.rules.specs.Numbers.{nameLong, mappingShort, workShort}
+use Rattle.rules.specs.Grounds.{because}
 use Rattle.sheet.specs.Refusals.{sheetGrounds}
 
 -- 30, 31 and 32
 abbrev pub nameGrounds : List ℕ → List ℕ → List ℕ → List (Option ℕ)
 nameGrounds name mapping work =
-    because (ltb nameLimit (length name)) longName
-    ∷ because (ltb (length mapping) (entrySize * length name)) shortMapping
-    ∷ because (ltb (length work) (areaFor name)) shortWork
+    because (ltb nameLimit (length name)) nameLong
+    ∷ because (ltb (length mapping) (entrySize * length name)) mappingShort
+    ∷ because (ltb (length work) (areaFor name)) workShort
     ∷ []
 
 -- the calls that are lent a mapping: first, next and check
@@ -24,8 +24,8 @@ mappingGrounds sheet name mapping work = sheetGrounds sheet ++ nameGrounds name 
 -- "The acceptance call has no mapping buffer, so no 31."
 abbrev pub bareGrounds : List ℕ → List ℕ → List (Option ℕ)
 bareGrounds name work =
-    because (ltb nameLimit (length name)) longName
-    ∷ because (ltb (length work) (areaFor name)) shortWork
+    because (ltb nameLimit (length name)) nameLong
+    ∷ because (ltb (length work) (areaFor name)) workShort
     ∷ []
 
 abbrev pub acceptGrounds : List ℕ → List ℕ → List ℕ → List (Option ℕ)

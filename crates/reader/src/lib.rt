@@ -6,7 +6,7 @@ ghost use mathlib.Core.List.{[]};
 ghost use Prim.Native.Nat.{_+_, _*_, _<_, _≤_};
 ghost use lib.ListN.{length};
 ghost use Rattle.rules.specs.Limits.{nameLimit, areaFor, wiped};
-ghost use Rattle.rules.specs.Refusal.{firstOf};
+ghost use Rattle.rules.specs.Grounds.{firstOf};
 ghost use Rattle.language.specs.Reading.{Pattern};
 ghost use Rattle.language.specs.Search.{accepts, isReading};
 ghost use Rattle.sheet.specs.Answer.{faultNumber};
@@ -30,12 +30,12 @@ use sheet::SheetTest;
 // What a name call answers; specs/Answer.antt gives the numbers.
 pub enum Answer {
     Done,
-    NotSo,
+    No,
     Sheet(SheetFault),
-    LongName,
-    ShortMapping,
-    ShortWork,
-    GivenNoReading,
+    NameLong,
+    MappingShort,
+    WorkShort,
+    NoReading,
 }
 
 // What is found of a call before anything is searched.
@@ -48,7 +48,7 @@ enum Test {
 enum Step {
     Found,
     NoMore,
-    NoReading,
+    Unread,
 }
 
 // The number for a fault of the sheet.
@@ -56,14 +56,14 @@ fn sheet_number(f: SheetFault) -> u64
     ensures { λ r. ⌜ r ≡ faultNumber f ⌝ }
 {
     match f {
-        SheetFault::OtherForm => 20,
-        SheetFault::OtherLength => 21,
-        SheetFault::ManyLiterals => 22,
-        SheetFault::StrangeEntry => 23,
-        SheetFault::FewWaiting => 24,
-        SheetFault::NotOneLeft => 25,
-        SheetFault::ManyWaiting => 26,
-        SheetFault::OtherLeaves => 27,
+        SheetFault::SheetForm => 20,
+        SheetFault::SheetLength => 21,
+        SheetFault::SheetLeaves => 22,
+        SheetFault::SheetByte => 23,
+        SheetFault::WaitingFew => 24,
+        SheetFault::WaitingEnd => 25,
+        SheetFault::WaitingMany => 26,
+        SheetFault::LeavesUnequal => 27,
     }
 }
 
@@ -73,12 +73,12 @@ pub fn number(a: Answer) -> u64
 {
     match a {
         Answer::Done => 0,
-        Answer::NotSo => 1,
+        Answer::No => 1,
         Answer::Sheet(f) => sheet_number(f),
-        Answer::LongName => 30,
-        Answer::ShortMapping => 31,
-        Answer::ShortWork => 32,
-        Answer::GivenNoReading => 33,
+        Answer::NameLong => 30,
+        Answer::MappingShort => 31,
+        Answer::WorkShort => 32,
+        Answer::NoReading => 33,
     }
 }
 
@@ -87,14 +87,14 @@ fn name_test(name: &[u8], mapping: &[u8], work: &[u8]) -> Test
     ensures { λ r. ⌜ reasonOf r ≡ firstOf (nameGrounds (now (name .entry)) (now (mapping .entry)) (now (work .entry))) ⌝ }
 {
     if NAME_LIMIT < name.len() {
-        return Test::Refused(Answer::LongName);
+        return Test::Refused(Answer::NameLong);
     }
     let area = ROW_SIZE * (name.len() + 1);
     if mapping.len() < name.len() {
-        return Test::Refused(Answer::ShortMapping);
+        return Test::Refused(Answer::MappingShort);
     }
     if work.len() < area {
-        return Test::Refused(Answer::ShortWork);
+        return Test::Refused(Answer::WorkShort);
     }
     Test::Passed
 }
@@ -169,7 +169,7 @@ fn next_reading(sheet: &[u8], name: &[u8], mapping: &mut [u8], work: &mut [u8]) 
     let mut letters = [0u64; LETTER_WORDS];
     automaton::tables(sheet, &mut follow, &mut stops, &mut letters);
     if !choices::is_reading(name, mapping, &follow, &stops, &letters) {
-        return Step::NoReading;
+        return Step::Unread;
     }
     rows::fill(work, name, &follow, &stops, &letters);
     if choices::advance(mapping, name, work, &follow) {
@@ -185,7 +185,7 @@ fn kept_by(s: Step, n: usize) -> usize
     match s {
         Step::Found => n,
         Step::NoMore => 0,
-        Step::NoReading => 0,
+        Step::Unread => 0,
     }
 }
 
@@ -194,8 +194,8 @@ fn answer_of(s: Step) -> Answer
 {
     match s {
         Step::Found => Answer::Done,
-        Step::NoMore => Answer::NotSo,
-        Step::NoReading => Answer::GivenNoReading,
+        Step::NoMore => Answer::No,
+        Step::Unread => Answer::NoReading,
     }
 }
 
@@ -229,7 +229,7 @@ pub fn accept(sheet: &[u8], name: &[u8], work: &mut [u8]) -> Answer
     }
     let inside = in_language(sheet, name, work);
     wipe_rows(work, name);
-    if inside { Answer::Done } else { Answer::NotSo }
+    if inside { Answer::Done } else { Answer::No }
 }
 
 // The first reading of the name.
@@ -243,7 +243,7 @@ pub fn first(sheet: &[u8], name: &[u8], mapping: &mut [u8], work: &mut [u8]) -> 
     }
     let found = first_reading(sheet, name, mapping, work);
     wipe_rows(work, name);
-    if found { Answer::Done } else { Answer::NotSo }
+    if found { Answer::Done } else { Answer::No }
 }
 
 // The reading after the given one.
@@ -271,5 +271,5 @@ pub fn check(sheet: &[u8], name: &[u8], mapping: &[u8], work: &mut [u8]) -> Answ
     }
     let right = given_reading(sheet, name, mapping);
     wipe_rows(work, name);
-    if right { Answer::Done } else { Answer::NotSo }
+    if right { Answer::Done } else { Answer::No }
 }

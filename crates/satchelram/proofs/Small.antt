@@ -3,9 +3,9 @@ use mathlib.Core.Path.{_≡_, refl, ap, _∙_}
 use mathlib.Core.List.{List}
 use Prim.Native.Nat.{ℕ, _<_}
 use native.Mathlib.Omega.{arith}
-use Rattle.rules.specs.Refusal.{refused, answered}
+use Rattle.rules.specs.Grounds.{refused, answered}
 use Rattle.sheet.specs.declared.SheetFault.{SheetFault}
-use Rattle.sheet.specs.declared.SheetFault.the-variants.{OtherForm, OtherLength, ManyLiterals, StrangeEntry, FewWaiting, NotOneLeft, ManyWaiting, OtherLeaves}
+use Rattle.sheet.specs.declared.SheetFault.the-variants.{SheetForm, SheetLength, SheetLeaves, SheetByte, WaitingFew, WaitingEnd, WaitingMany, LeavesUnequal}
 use Rattle.sheet.specs.Answer.{faultNumber}
 use Rattle.text.specs.Outcome.{SheetEnd, made, short, SheetCall}
 use Rattle.maker.specs.declared.SheetAnswer.{SheetAnswer}
@@ -14,7 +14,7 @@ use Rattle.text.proofs.Numbers.{text-number}
 use Rattle.text.proofs.Places.{place-small, sheet-small}
 use Rattle.reader.specs.Outcome.{End}
 use Rattle.reader.specs.declared.Answer.{Answer}
-use Rattle.reader.specs.declared.Answer.the-variants.{Done, NotSo, Sheet, LongName, ShortMapping, ShortWork, GivenNoReading}
+use Rattle.reader.specs.declared.Answer.the-variants.{Done, No, Sheet, NameLong, MappingShort, WorkShort, NoReading}
 use Rattle.reader.specs.Answer.{numberOf, endOf}
 use Rattle.satchelram.specs.Packing.{numberRoom, secondRoom, packed, numberIn, secondIn}
 use Rattle.satchelram.specs.Exported.{sheetEndIn, endIn, Exports}
@@ -30,23 +30,23 @@ sheet-fits text buffer s (answered e (made {t = t} p h)) = record { low = omega 
 sheet-fits text buffer s (answered e (short {t = t} p h)) = record { low = omega arith; high = omega (arith, sheet-small text t e p) }
 
 fault-small : (f : SheetFault) → faultNumber f < numberRoom
-fault-small OtherForm = omega arith
-fault-small OtherLength = omega arith
-fault-small ManyLiterals = omega arith
-fault-small StrangeEntry = omega arith
-fault-small FewWaiting = omega arith
-fault-small NotOneLeft = omega arith
-fault-small ManyWaiting = omega arith
-fault-small OtherLeaves = omega arith
+fault-small SheetForm = omega arith
+fault-small SheetLength = omega arith
+fault-small SheetLeaves = omega arith
+fault-small SheetByte = omega arith
+fault-small WaitingFew = omega arith
+fault-small WaitingEnd = omega arith
+fault-small WaitingMany = omega arith
+fault-small LeavesUnequal = omega arith
 
 pub number-small : (a : Answer) → numberOf a < numberRoom
 number-small Done = omega arith
-number-small NotSo = omega arith
+number-small No = omega arith
 number-small (Sheet f) = fault-small f
-number-small LongName = omega arith
-number-small ShortMapping = omega arith
-number-small ShortWork = omega arith
-number-small GivenNoReading = omega arith
+number-small NameLong = omega arith
+number-small MappingShort = omega arith
+number-small WorkShort = omega arith
+number-small NoReading = omega arith
 
 -- a packed answer exports the outcome that was packed
 module _ (outcome : ℕ → ℕ → Type 0) (number second answer : ℕ) (fits : Fits number second) (e : answer ≡ packed number second 0) (goes : outcome number second) where

@@ -9,7 +9,7 @@ use lib.Dec.{eqb}
 use lib.ListN.{length, getD, drop, drop-of-length-le, length-drop}
 use borrow.Author.Tests.{eqb-true}
 use Rattle.rules.specs.Limits.{openLimit}
-use Rattle.rules.specs.Numbers.{missingOperand, nothingOpen, leftOpen, tooDeep}
+use Rattle.rules.specs.Numbers.{operandMissing, closeUnopened, openUnclosed, openDeep}
 use Rattle.lexer.specs.declared.Refusal.{Refusal}
 use Rattle.lexer.specs.Bytes.{bar, asterisk, leftParenthesis, rightParenthesis}
 use Rattle.lexer.specs.Tokens.{Placed, placed, aBar, aStar, aClose, starts, tokensFrom}
@@ -55,73 +55,73 @@ at-end t at e c = omega (arith, length-drop at t, end-is (drop at t) e c)
 
 -- THE WALK
 module _ (len d : ℕ) where
-  end-out : (f : Frame) (gs : List Frame) → Ready f gs [] → d + length gs ≡ openLimit → d ≡ openLimit → run len d [] f gs ≡ faultAt missingOperand len
+  end-out : (f : Frame) (gs : List Frame) → Ready f gs [] → d + length gs ≡ openLimit → d ≡ openLimit → run len d [] f gs ≡ faultAt operandMissing len
   end-out (begin a) [] r e q = refl
   end-out (going a s u) [] r e q = clash (sym r)
   end-out f (g ∷ gs) r e q = absurd (omega arith)
 
-  end-in : (f : Frame) (gs : List Frame) → d + length gs ≡ openLimit → (d ≡ openLimit → ⊥) → run len d [] f gs ≡ faultAt leftOpen len
+  end-in : (f : Frame) (gs : List Frame) → d + length gs ≡ openLimit → (d ≡ openLimit → ⊥) → run len d [] f gs ≡ faultAt openUnclosed len
   end-in f [] e q = absurd (q (omega arith))
   end-in (begin a) (g ∷ gs) e q = refl
   end-in (going a s u) (g ∷ gs) e q = refl
 
   module _ (i : ℕ) (ps : List Placed) where
-    close-out : (f : Frame) (gs : List Frame) → d + length gs ≡ openLimit → d ≡ openLimit → run len d (placed i aClose ∷ ps) f gs ≡ faultAt nothingOpen i
+    close-out : (f : Frame) (gs : List Frame) → d + length gs ≡ openLimit → d ≡ openLimit → run len d (placed i aClose ∷ ps) f gs ≡ faultAt closeUnopened i
     close-out (begin none) [] e q = refl
     close-out (begin (some r)) [] e q = refl
     close-out (going a s u) [] e q = refl
     close-out f (g ∷ gs) e q = absurd (omega arith)
 
     close-in : (s : List ℕ) (f : Frame) (gs : List Frame) → starts s rightParenthesis ≡ true → Ready f gs s → d + length gs ≡ openLimit → (d ≡ openLimit → ⊥)
-        → run len d (placed i aClose ∷ ps) f gs ≡ faultAt missingOperand i
+        → run len d (placed i aClose ∷ ps) f gs ≡ faultAt operandMissing i
     close-in s f [] c r e q = absurd (q (omega arith))
     close-in s (begin none) (g ∷ gs) c r e q = clash (sym c ∙ r)
     close-in s (begin (some t)) (g ∷ gs) c r e q = refl
     close-in s (going a b u) (g ∷ gs) c r e q = absurd (not-unit rightParenthesis refl s c r)
 
-    bar-none : (s : List ℕ) (f : Frame) (gs : List Frame) → starts s bar ≡ true → Ready f gs s → run len d (placed i aBar ∷ ps) f gs ≡ faultAt missingOperand i
+    bar-none : (s : List ℕ) (f : Frame) (gs : List Frame) → starts s bar ≡ true → Ready f gs s → run len d (placed i aBar ∷ ps) f gs ≡ faultAt operandMissing i
     bar-none s (begin a) gs c r = refl
     bar-none s (going a b u) gs c r = absurd (not-unit bar refl s c r)
 
-    star-none : (s : List ℕ) (f : Frame) (gs : List Frame) → starts s asterisk ≡ true → Ready f gs s → run len d (placed i aStar ∷ ps) f gs ≡ faultAt missingOperand i
+    star-none : (s : List ℕ) (f : Frame) (gs : List Frame) → starts s asterisk ≡ true → Ready f gs s → run len d (placed i aStar ∷ ps) f gs ≡ faultAt operandMissing i
     star-none s (begin a) gs c r = refl
     star-none s (going a b u) gs c r = absurd (not-unit asterisk refl s c r)
 
 -- FROM A PLACE OF A TEXT
 module _ (t : List ℕ) (d at : ℕ) where
   module _ (h : at ≤ length t) (e : length t ≤ at) where
-    pub missing-end-out : d ≡ openLimit → MissingRead t d at (refusedAs missingOperand at)
+    pub missing-end-out : d ≡ openLimit → MissingRead t d at (refusedAs operandMissing at)
     missing-end-out q f gs r c =
         let z : length t ≡ at = omega arith in
         rw (tokens-end t at e, z) (end-out at d f gs (rw (drop-of-length-le t {i = at} e) at r) c q)
 
-    pub missing-end-in : (d ≡ openLimit → ⊥) → MissingRead t d at (refusedAs leftOpen at)
+    pub missing-end-in : (d ≡ openLimit → ⊥) → MissingRead t d at (refusedAs openUnclosed at)
     missing-end-in q f gs r c =
         let z : length t ≡ at = omega arith in
         rw (tokens-end t at e, z) (end-in at d f gs c q)
 
   module _ (e : starts (drop at t) rightParenthesis ≡ true) where
-    pub missing-close-out : d ≡ openLimit → MissingRead t d at (refusedAs nothingOpen at)
+    pub missing-close-out : d ≡ openLimit → MissingRead t d at (refusedAs closeUnopened at)
     missing-close-out q f gs r c = rw (tokens-close t at e) (close-out (length t) d at (tokensFrom t (at + 1)) f gs c q)
 
-    pub missing-close-in : (d ≡ openLimit → ⊥) → MissingRead t d at (refusedAs missingOperand at)
+    pub missing-close-in : (d ≡ openLimit → ⊥) → MissingRead t d at (refusedAs operandMissing at)
     missing-close-in q f gs r c = rw (tokens-close t at e) (close-in (length t) d at (tokensFrom t (at + 1)) (drop at t) f gs e r c q)
 
   -- a bar or a star
-  pub missing-join : at < length t → unitAt (drop at t) ≡ false → starts (drop at t) rightParenthesis ≡ false → MissingRead t d at (refusedAs missingOperand at)
+  pub missing-join : at < length t → unitAt (drop at t) ≡ false → starts (drop at t) rightParenthesis ≡ false → MissingRead t d at (refusedAs operandMissing at)
   missing-join h u e = go (eqb (getD t at 0) bar) refl
     where
       byte : (c : ℕ) → starts (drop at t) c ≡ eqb (getD t at 0) c
       byte c = sym (front-in (λ (s : List ℕ). starts s c) t at h)
 
-      go : (b : Bool) → eqb (getD t at 0) bar ≡ b → MissingRead t d at (refusedAs missingOperand at)
+      go : (b : Bool) → eqb (getD t at 0) bar ≡ b → MissingRead t d at (refusedAs operandMissing at)
       go true q = λ f gs r c. let s : starts (drop at t) bar ≡ true = byte bar ∙ q in rw (tokens-bar t at s) (bar-none (length t) d at (tokensFrom t (at + 1)) (drop at t) f gs s r)
       go false q =
           let k = joins (eqb (getD t at 0) bar) (eqb (getD t at 0) asterisk) (eqb (getD t at 0) rightParenthesis) (front-in unitAt t at h ∙ u) (sym (byte rightParenthesis) ∙ e) q in
           let s : starts (drop at t) asterisk ≡ true = byte asterisk ∙ k in
           λ f gs r c. rw (tokens-star t at s) (star-none (length t) d at (tokensFrom t (at + 1)) (drop at t) f gs s r)
 
-  pub fails-deep : starts (drop at t) leftParenthesis ≡ true → d ≡ 0 → Fails t d at (record { number = tooDeep; place = at })
+  pub fails-deep : starts (drop at t) leftParenthesis ≡ true → d ≡ 0 → Fails t d at (record { number = openDeep; place = at })
   fails-deep e q f gs r c = rw (tokens-open t at e, q) refl
 
   pub fails-token : (k : Refusal) → Faulty t at k → Fails t d at k

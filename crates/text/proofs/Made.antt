@@ -9,8 +9,8 @@ use lib.Dec.{ltb}
 use lib.ListN.{length, replicate, length-append, length-replicate}
 use borrow.Author.Tests.{ltb-false}
 use Rattle.rules.specs.Limits.{openLimit, leafLimit, nodeLimit, outside}
-use Rattle.rules.specs.Numbers.{manyLeaves}
-use Rattle.rules.proofs.Refusal.{no-some, passed, not-because}
+use Rattle.rules.specs.Numbers.{leavesMany}
+use Rattle.rules.proofs.Grounds.{no-some, passed, not-because}
 use Rattle.language.specs.Tree.{Tree, leaf, empty, cat, alt, size}
 use Rattle.lexer.specs.Tokens.{aBar, aStar, aClose, Placed, placed, tokensFrom}
 use Rattle.lexer.proofs.Literals.{Writable, writable}
@@ -39,7 +39,7 @@ passed-total n [] h e = omega arith
 passed-total n (placed i t ∷ ps) h e = go (ltb leafLimit (n + leavesOf t)) refl (λ k f. passed-total (n + leavesOf t) ps k f) e
   where
     go : (b : Bool) → ltb leafLimit (n + leavesOf t) ≡ b → (n + leavesOf t ≤ leafLimit → passing (n + leavesOf t) ps ≡ none → n + leavesOf t + total ps ≤ leafLimit)
-        → _≡_ {A = Option Fault} (cond b (some (at i manyLeaves)) (passing (n + leavesOf t) ps)) none → n + (leavesOf t + total ps) ≤ leafLimit
+        → _≡_ {A = Option Fault} (cond b (some (at i leavesMany)) (passing (n + leavesOf t) ps)) none → n + (leavesOf t + total ps) ≤ leafLimit
     go true l rest e = no-some (sym e)
     go false l rest e = omega (arith, rest (ltb-false leafLimit (n + leavesOf t) l) e)
 

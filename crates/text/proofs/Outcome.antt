@@ -6,8 +6,8 @@ use native.Mathlib.Omega.{arith}
 use native.Mathlib.Decide.{decLt}
 use lib.ListN.{length}
 use Rattle.rules.specs.Limits.{openLimit, wiped, filled}
-use Rattle.rules.specs.Numbers.{done, shortSheet}
-use Rattle.rules.proofs.Refusal.{settled, ends}
+use Rattle.rules.specs.Numbers.{done, sheetShort}
+use Rattle.rules.proofs.Grounds.{settled, ends}
 use Rattle.language.specs.Tree.{Tree}
 use Rattle.sheet.specs.Make.{sheetOf}
 use Rattle.lexer.specs.Tokens.{tokensFrom}
@@ -24,7 +24,7 @@ module _ (text buffer : List ℕ) where
   went-same s s′ (made p h) (made q k) = ap (λ (x : List ℕ). record { number = done; second = length x; sheet = filled buffer x }) (same-sheet p q)
   went-same s s′ (made p h) (short q k) = absurd (omega (arith, ap length (same-sheet p q)))
   went-same s s′ (short p h) (made q k) = absurd (omega (arith, ap length (same-sheet p q)))
-  went-same s s′ (short p h) (short q k) = ap (λ (x : List ℕ). record { number = shortSheet; second = length x; sheet = wiped buffer }) (same-sheet p q)
+  went-same s s′ (short p h) (short q k) = ap (λ (x : List ℕ). record { number = sheetShort; second = length x; sheet = wiped buffer }) (same-sheet p q)
 
   pub sheet-settled : (s s′ : SheetEnd) → SheetCall text buffer s → SheetCall text buffer s′ → s ≡ s′
   sheet-settled = settled went-same

@@ -6,7 +6,7 @@ use mathlib.Core.List.{List, [], _∷_, _++_, append-nil}
 use Prim.Native.Nat.{ℕ, suc, _+_, _≤_}
 use native.Mathlib.Omega.{arith}
 use lib.ListN.{length, getD, drop, replicate, set}
-use Rattle.rules.specs.Numbers.{leftOpen, nothingOpen}
+use Rattle.rules.specs.Numbers.{openUnclosed, closeUnopened}
 use Rattle.rules.specs.Limits.{openLimit}
 use Rattle.language.specs.Tree.{Tree, leaf, empty, cat, alt, star}
 use Rattle.sheet.specs.Make.{postorder, leaves}
@@ -69,7 +69,7 @@ module _ {t : List ℕ} {d e at : ℕ} (o : Opens t d e at) where
       walk = λ f gs. rw (tokens-open t at (o .bracket), o .deeper) (w .walk (f ∷ gs) ∙ rw (tokens-close t next c) refl);
     }
 
-    pub fails-unclosed : next ≤ length t → length t ≤ next → Fails t d at (record { number = leftOpen; place = next })
+    pub fails-unclosed : next ≤ length t → length t ≤ next → Fails t d at (record { number = openUnclosed; place = next })
     fails-unclosed h g f gs r c =
         let z : length t ≡ next = omega arith in
         rw (tokens-open t at (o .bracket), o .deeper) (w .walk (f ∷ gs) ∙ rw (tokens-end t next g, z) refl)
@@ -216,5 +216,5 @@ module _ {t xs ys bs cs : List ℕ} {next m k : ℕ} (w : AltPart t openLimit 0 
     lits = w .stored .lits;
   }
 
-  pub whole-closed : starts (drop next t) rightParenthesis ≡ true → parse t ≡ faultAt nothingOpen next
+  pub whole-closed : starts (drop next t) rightParenthesis ≡ true → parse t ≡ faultAt closeUnopened next
   whole-closed c = w .walk [] ∙ rw (tokens-close t next c) refl

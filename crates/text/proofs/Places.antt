@@ -9,9 +9,9 @@ use lib.Dec.{ltb}
 use lib.ListN.{length}
 use borrow.Author.Tests.{ltb-false}
 use Rattle.rules.specs.Limits.{textLimit, openLimit, leafLimit, nodeLimit}
-use Rattle.rules.specs.Numbers.{longText, manyLeaves, manyNodes}
-use Rattle.rules.specs.Refusal.{because, firstOf}
-use Rattle.rules.proofs.Refusal.{some-eq, Gives, AllGive, because-gives, first-gives}
+use Rattle.rules.specs.Numbers.{textLong, leavesMany, nodesMany}
+use Rattle.rules.specs.Grounds.{because, firstOf}
+use Rattle.rules.proofs.Grounds.{some-eq, Gives, AllGive, because-gives, first-gives}
 use Rattle.language.specs.Tree.{Tree}
 use Rattle.lexer.specs.Tokens.{aLiteral, aBar, aStar, anOpen, aClose, aFault, Placed, placed, tokensFrom}
 use Rattle.lexer.proofs.Inside.{Inside, inside}
@@ -56,12 +56,12 @@ module _ (e : ℕ) where
   passing-near n [] w = tt
   passing-near n (placed i t ∷ ps) (h, w) = go (ltb leafLimit (n + leavesOf t)) (passing-near (n + leavesOf t) ps w)
     where
-      go : (b : Bool) → Gives Near (passing (n + leavesOf t) ps) → Gives Near (cond b (some (at i manyLeaves)) (passing (n + leavesOf t) ps))
+      go : (b : Bool) → Gives Near (passing (n + leavesOf t) ps) → Gives Near (cond b (some (at i leavesMany)) (passing (n + leavesOf t) ps))
       go true rest = h
       go false rest = rest
 
   big-near : (o : Answer) → Gives Near (tooBig e o)
-  big-near (tree t) = because-gives Near (ltb nodeLimit (length (postorder t))) (at e manyNodes) (omega arith)
+  big-near (tree t) = because-gives Near (ltb nodeLimit (length (postorder t))) (at e nodesMany) (omega arith)
   big-near (fault f) = tt
 
 -- the place of a refusal
@@ -80,7 +80,7 @@ place-small text f e = go (ltb textLimit (length text)) refl e
       ),
     )
 
-    go : (b : Bool) → ltb textLimit (length text) ≡ b → firstOf (because b (at textLimit longText) ∷ rest) ≡ some f → f .place ≤ textLimit
+    go : (b : Bool) → ltb textLimit (length text) ≡ b → firstOf (because b (at textLimit textLong) ∷ rest) ≡ some f → f .place ≤ textLimit
     go true l q = rw (← some-eq q) (omega arith)
     go false l q =
         let n : f .place ≤ length text = rw q at (first-gives (Near (length text)) rest near) in

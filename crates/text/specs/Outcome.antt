@@ -3,8 +3,8 @@ use mathlib.Core.List.{List}
 use Prim.Native.Nat.{ℕ, _<_, _≤_}
 use lib.ListN.{length}
 use Rattle.rules.specs.Limits.{openLimit, wiped, filled}
-use Rattle.rules.specs.Numbers.{done, shortSheet}
-use Rattle.rules.specs.Refusal.{Call}
+use Rattle.rules.specs.Numbers.{done, sheetShort}
+use Rattle.rules.specs.Grounds.{Call}
 use Rattle.language.specs.Tree.{Tree}
 use Rattle.sheet.specs.Make.{sheetOf}
 use Rattle.lexer.specs.Tokens.{tokensFrom}
@@ -26,7 +26,7 @@ pub data SheetWent (text buffer : List ℕ) : SheetEnd → Type 0 where
   made : {t : Tree ℕ} → TreeOfText text t → length (sheetOf t) ≤ length buffer
       → SheetWent text buffer (record { number = done; second = length (sheetOf t); sheet = filled buffer (sheetOf t) })
   short : {t : Tree ℕ} → TreeOfText text t → length buffer < length (sheetOf t)
-      → SheetWent text buffer (record { number = shortSheet; second = length (sheetOf t); sheet = wiped buffer })
+      → SheetWent text buffer (record { number = sheetShort; second = length (sheetOf t); sheet = wiped buffer })
 
 -- a refusal answers its place, and wipes the buffer
 abbrev pub sheetKept : List ℕ → Fault → SheetEnd

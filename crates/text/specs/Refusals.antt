@@ -6,8 +6,8 @@ use Prim.Native.Nat.{ℕ, _+_}
 use lib.Dec.{ltb}
 use lib.ListN.{length}
 use Rattle.rules.specs.Limits.{textLimit, leafLimit, nodeLimit}
-use Rattle.rules.specs.Numbers.{longText, manyLeaves, manyNodes}
-use Rattle.rules.specs.Refusal.{because, firstOf}
+use Rattle.rules.specs.Numbers.{textLong, leavesMany, nodesMany}
+use Rattle.rules.specs.Grounds.{because, firstOf}
 use Rattle.sheet.specs.Make.{postorder}
 use Rattle.lexer.specs.Tokens.{Token, aLiteral, aBar, aStar, anOpen, aClose, aFault, Placed, placed, tokensFrom}
 use Rattle.text.specs.Walk.{Fault, Answer, tree, fault, parse}
@@ -42,16 +42,16 @@ leavesOf (aFault k) = 0
 -- 16: the place of the literal whose leaves pass the limit, after n leaves
 abbrev pub passing : ℕ → List Placed → Option Fault
 passing n [] = none
-passing n (placed i t ∷ ps) = cond (ltb leafLimit (n + leavesOf t)) (some (at i manyLeaves)) (passing (n + leavesOf t) ps)
+passing n (placed i t ∷ ps) = cond (ltb leafLimit (n + leavesOf t)) (some (at i leavesMany)) (passing (n + leavesOf t) ps)
 
 -- 17: more nodes than the limit; e: the text's length
 abbrev pub tooBig : ℕ → Answer → Option Fault
-tooBig e (tree t) = because (ltb nodeLimit (length (postorder t))) (at e manyNodes)
+tooBig e (tree t) = because (ltb nodeLimit (length (postorder t))) (at e nodesMany)
 tooBig e (fault f) = none
 
 abbrev pub textGrounds : List ℕ → List (Option Fault)
 textGrounds text =
-    because (ltb textLimit (length text)) (at textLimit longText)
+    because (ltb textLimit (length text)) (at textLimit textLong)
     ∷ lexical (tokensFrom text 0)
     ∷ grammatical (parse text)
     ∷ passing 0 (tokensFrom text 0)

@@ -5,7 +5,7 @@ use Prim.Native.Nat.{ℕ, zero, suc}
 use lib.ListN.{length}
 use Rattle.language.specs.Tree.{Tree, empty, cat, alt, star}
 use Rattle.rules.specs.Limits.{openLimit}
-use Rattle.rules.specs.Numbers.{missingOperand, nothingOpen, leftOpen, tooDeep}
+use Rattle.rules.specs.Numbers.{operandMissing, closeUnopened, openUnclosed, openDeep}
 use Rattle.lexer.specs.Tokens.{aLiteral, aBar, aStar, anOpen, aClose, aFault, Placed, placed, tokensFrom}
 use Rattle.text.specs.Grammar.{copies}
 
@@ -42,19 +42,19 @@ faultAt k i = fault (record { number = k; place = i })
 
 -- e: the text's length; d: how many more parentheses may be opened; the frame being read, and those of the open parentheses
 abbrev pub run : ℕ → ℕ → List Placed → Frame → List Frame → Answer
-run e d [] (begin a) [] = faultAt missingOperand e
+run e d [] (begin a) [] = faultAt operandMissing e
 run e d [] (going a s u) [] = tree (value a s u)
-run e d [] f (g ∷ gs) = faultAt leftOpen e
+run e d [] f (g ∷ gs) = faultAt openUnclosed e
 run e d (placed i (aLiteral b x y) ∷ ps) f gs = run e d ps (put (copies b x y) f) gs
-run e d (placed i aStar ∷ ps) (begin a) gs = faultAt missingOperand i
+run e d (placed i aStar ∷ ps) (begin a) gs = faultAt operandMissing i
 run e d (placed i aStar ∷ ps) (going a s u) gs = run e d ps (going a s (star u)) gs
-run e d (placed i aBar ∷ ps) (begin a) gs = faultAt missingOperand i
+run e d (placed i aBar ∷ ps) (begin a) gs = faultAt operandMissing i
 run e d (placed i aBar ∷ ps) (going a s u) gs = run e d ps (begin (some (value a s u))) gs
-run e zero (placed i anOpen ∷ ps) f gs = faultAt tooDeep i
+run e zero (placed i anOpen ∷ ps) f gs = faultAt openDeep i
 run e (suc d) (placed i anOpen ∷ ps) f gs = run e d ps (begin none) (f ∷ gs)
-run e d (placed i aClose ∷ ps) f [] = faultAt nothingOpen i
+run e d (placed i aClose ∷ ps) f [] = faultAt closeUnopened i
 run e d (placed i aClose ∷ ps) (begin none) (g ∷ gs) = run e (suc d) ps (put empty g) gs
-run e d (placed i aClose ∷ ps) (begin (some r)) (g ∷ gs) = faultAt missingOperand i
+run e d (placed i aClose ∷ ps) (begin (some r)) (g ∷ gs) = faultAt operandMissing i
 run e d (placed i aClose ∷ ps) (going a s u) (g ∷ gs) = run e (suc d) ps (put (value a s u) g) gs
 run e d (placed i (aFault k) ∷ ps) f gs = faultAt k i
 

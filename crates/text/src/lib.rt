@@ -19,14 +19,14 @@ use lexer::literal_at;
 use lexer::plain_at;
 use lexer::unit_at;
 use rules::CAT_NODE;
+use rules::CLOSE_UNOPENED;
 use rules::EMPTY_NODE;
 use rules::LEAF_NODE;
-use rules::LEFT_OPEN;
-use rules::MISSING_OPERAND;
-use rules::NOTHING_OPEN;
+use rules::OPEN_DEEP;
 use rules::OPEN_LIMIT;
+use rules::OPEN_UNCLOSED;
+use rules::OPERAND_MISSING;
 use rules::STAR_NODE;
-use rules::TOO_DEEP;
 use rules::UNION_NODE;
 
 // A reader's answer.
@@ -88,16 +88,16 @@ fn missing(text: &[u8], at: usize, allowed: usize) -> Read
     if at < text.len() {
         if is(text, at, b')') {
             if allowed == OPEN_LIMIT {
-                return refused(NOTHING_OPEN, at);
+                return refused(CLOSE_UNOPENED, at);
             }
-            return refused(MISSING_OPERAND, at);
+            return refused(OPERAND_MISSING, at);
         }
-        return refused(MISSING_OPERAND, at);
+        return refused(OPERAND_MISSING, at);
     }
     if allowed == OPEN_LIMIT {
-        return refused(MISSING_OPERAND, at);
+        return refused(OPERAND_MISSING, at);
     }
-    refused(LEFT_OPEN, at)
+    refused(OPEN_UNCLOSED, at)
 }
 
 // An alternation: its sequences, each after the first with the union after it.
@@ -179,7 +179,7 @@ fn unit(
 {
     if is(text, at, b'(') {
         if allowed == 0 {
-            return refused(TOO_DEEP, at);
+            return refused(OPEN_DEEP, at);
         }
         if is(text, at + 1, b')') {
             emit(nodes, n, EMPTY_NODE);
@@ -192,7 +192,7 @@ fn unit(
         if is(text, next, b')') {
             return stars(text, nodes, next + 1, m, k);
         }
-        return refused(LEFT_OPEN, next);
+        return refused(OPEN_UNCLOSED, next);
     }
     if unit_at(text, at) {
         return literal(text, nodes, lits, at, n, l);
@@ -210,7 +210,7 @@ pub fn read_text(text: &[u8], nodes: &mut [u8], lits: &mut [u8]) -> Read
         return r;
     };
     if is(text, next, b')') {
-        return refused(NOTHING_OPEN, next);
+        return refused(CLOSE_UNOPENED, next);
     }
     Read::Done(next, m, k)
 }

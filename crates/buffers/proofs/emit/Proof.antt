@@ -1,0 +1,20 @@
+use borrow.Author.Needs.{needs}
+use lib.Seq.{set-out}
+use mathlib.Core.Path.{sym}
+use Rattle.buffers.proofs.emit.Statement.{statement}
+use Rattle.buffers.proofs.emit.Tie as tie
+
+slice-write-bytes : tie.Need-slice-write-bytes
+slice-write-bytes c = search needs
+
+same-length : tie.Need-same-length
+same-length c = search needs
+
+returns : tie.Need-returns
+returns c = search needs
+
+returns-2 : tie.Need-returns-2
+returns-2 c = sym (set-out _ _ _ ((c .if1) .left))
+
+pub emit-spec : {M : Type 1} → statement M
+emit-spec = tie.close (tie.spec slice-write-bytes same-length returns returns-2)
