@@ -33,7 +33,7 @@ fn entry(mapping: &[u8], i: Place) -> Position
     ensures { λ r. ⌜ (r .0 ≡ getD (now (mapping .entry)) (i .0) 0) × (r .0 < byteValues) ⌝ }
 {
     let at = i.0;
-    Position(rules::wide(mapping[at]))
+    Position(buffers::wide(mapping[at]))
 }
 
 // The entry before a place; at the first place, the start.

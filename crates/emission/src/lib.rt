@@ -6,10 +6,10 @@ ghost use lib.ListN.{length, take, replicate, set};
 ghost use lib.Seq.{sets};
 ghost use lib.Dec.{ltb};
 ghost use Rattle.emission.specs.Wrote.{Wrote, countLimit, opIf, copyNodes, copiesFrom, repeatNodes};
-use rules::CAT_NODE;
-use rules::EMPTY_NODE;
-use rules::LEAF_NODE;
-use rules::UNION_NODE;
+use sheet::CAT_NODE;
+use sheet::EMPTY_NODE;
+use sheet::LEAF_NODE;
+use sheet::UNION_NODE;
 
 // One byte more: stored where there is room.
 pub fn emit(bytes: &mut [u8], n: usize, b: u8)

@@ -12,7 +12,7 @@ use rules::LOWEST_BYTE;
 use rules::REPEAT_FAULT;
 use rules::TEXT_BYTE;
 use rules::TEXT_LIMIT;
-use rules::wide;
+use buffers::wide;
 
 const DIGIT_ZERO: usize = b'0' as usize;
 

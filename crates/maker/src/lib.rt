@@ -16,7 +16,7 @@ use lexer::Refusal;
 use lexer::is;
 use lexer::literal_at;
 use lexer::unit_at;
-use rules::FORM;
+use sheet::FORM;
 use rules::LEAF_LIMIT;
 use rules::LEAVES_MANY;
 use rules::NODE_LIMIT;

@@ -18,16 +18,16 @@ use lexer::is;
 use lexer::literal_at;
 use lexer::plain_at;
 use lexer::unit_at;
-use rules::CAT_NODE;
+use sheet::CAT_NODE;
 use rules::CLOSE_UNOPENED;
-use rules::EMPTY_NODE;
-use rules::LEAF_NODE;
+use sheet::EMPTY_NODE;
+use sheet::LEAF_NODE;
 use rules::OPEN_DEEP;
 use rules::OPEN_LIMIT;
 use rules::OPEN_UNCLOSED;
 use rules::OPERAND_MISSING;
-use rules::STAR_NODE;
-use rules::UNION_NODE;
+use sheet::STAR_NODE;
+use sheet::UNION_NODE;
 
 // A reader's answer.
 pub enum Read {
