@@ -45,12 +45,13 @@ if [ -n "$archive" ]; then
     engines=(ours pcre2 re2)
 fi
 
-# count FUNCTION PROGRAM WORD..: instructions of the one time that the function runs in the program. The environment is
-# empty, since its length moves the stack, and with it a count by a few instructions. A count that fails stops the
-# script if it is assigned to a variable, but not as an argument.
+# count FUNCTION PROGRAM WORD..: instructions of the one time that the function runs in the program. The environment has
+# one word only, since its length moves the stack, and with it a count by a few instructions. That word keeps memset
+# from `rep stosb`, of which callgrind counts every byte as an instruction. A count that fails stops the script if it is
+# assigned to a variable, but not as an argument.
 count() {
     local log=$out/log figure
-    env -i "$valgrind" --tool=callgrind --callgrind-out-file=/dev/null --toggle-collect="$1" "$out/$2" "${@:3}" >"$log" 2>&1 ||
+    env -i GLIBC_TUNABLES=glibc.cpu.x86_rep_stosb_threshold=1000000000 "$valgrind" --tool=callgrind --callgrind-out-file=/dev/null --toggle-collect="$1" "$out/$2" "${@:3}" >"$log" 2>&1 ||
         stop "${*:2} failed: $(cat "$log")"
     figure=$(sed -n 's/.*Collected : \([0-9]*\).*/\1/p' "$log")
     [[ $figure =~ ^[1-9][0-9]*$ ]] || stop "${*:2}: callgrind saw no $1: $(cat "$log")"
