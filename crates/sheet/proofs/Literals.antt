@@ -6,7 +6,7 @@ use mathlib.Core.List.{List, [], _∷_, _++_, append-assoc}
 use Prim.Native.Nat.{ℕ, zero, suc, _+_, _-_, _<_, _≤_}
 use native.Mathlib.Omega.{arith}
 use lib.Dec.{eqb, ltb}
-use lib.ListN.{length, getD, take, drop, set, replicate, length-append, length-drop, drop-of-length-le, List·getD-eq-default}
+use lib.ListN.{length, getD, take, drop, set, length-append, length-drop, drop-of-length-le, List·getD-eq-default}
 use lib.Seq.{sets, sets-eq, length-sets, take-all, take-at, length-take-le, getD-take, getD-drop, take-append-seam, drop-append-add, getD-append-seam}
 use borrow.Author.Tests.{ltb-false, leb-false, eqb-true, not-false, lt-ltb, le-ltb, le-leb, lt-leb, eq-eqb}
 use Rattle.rules.specs.Limits.{byteValues, leafLimit, nodeLimit, lowestByte, highestByte, outside, filled}
@@ -69,7 +69,7 @@ module _ (s : List ℕ) where
       is-right e = rw (fits, le-ltb leafLimit (literalCount s) few, e) refl
 
 -- WHAT PASSES
-is-so : (a b : ℕ) → not (eqb a b) ≡ false → a ≡ b
+pub is-so : (a b : ℕ) → not (eqb a b) ≡ false → a ≡ b
 is-so a b e = eqb-true a b (not-false (eqb a b) e)
 
 any-none : (f : ℕ → Bool) (xs : List ℕ) (i : ℕ) → anyOf f xs ≡ false → i < length xs → f (getD xs i 0) ≡ false
@@ -147,7 +147,10 @@ module _ (xs ns : List ℕ) where
       let counted : 1 < length (laidOut xs ns) = omega (arith, laid-length) in
       let further : 2 + length xs < length (laidOut xs ns) = omega (arith, laid-length) in
       let fits : length (laidOut xs ns) ≡ lengthFor (length xs) (nodeCount (laidOut xs ns)) = laid-length ∙ rw laid-count refl in
-      rw (lt-leb (length (laidOut xs ns)) 1 counted, lt-leb (length (laidOut xs ns)) (2 + length xs) further, eq-eqb (length (laidOut xs ns)) (lengthFor (length xs) (nodeCount (laidOut xs ns))) fits, le-ltb leafLimit (length xs) few, laid-literals, plain, laid-nodes, known) refl
+      let long : lengthWrong (laidOut xs ns) ≡ false =
+      rw (lt-leb (length (laidOut xs ns)) 1 counted, lt-leb (length (laidOut xs ns)) (2 + length xs) further, eq-eqb (length (laidOut xs ns)) (lengthFor (length xs) (nodeCount (laidOut xs ns))) fits) refl in
+      let right : byteWrong (laidOut xs ns) ≡ false = rw (laid-literals, plain, laid-nodes, known) refl in
+      sym (is-right (laidOut xs ns) long few right)
 
 -- WRITING
 -- bytes stored from the start stand in front

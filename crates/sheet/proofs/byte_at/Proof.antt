@@ -1,7 +1,5 @@
 -- An accepted sheet has form 1, and a leaf of form 1 takes its literal.
 use mathlib.Core.Path.{sym}
-use Prim.Native.Nat.{_≤_}
-use Rattle.rules.specs.Limits.{highestByte}
 use Rattle.sheet.proofs.Accepted.{position-inside, takes-are, byte-inside}
 use Rattle.sheet.proofs.byte_at.Statement.{statement}
 use Rattle.sheet.proofs.byte_at.Tie as tie

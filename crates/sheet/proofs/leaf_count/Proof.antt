@@ -1,6 +1,5 @@
 -- An unknown form has no leaves; form 1 has its literals.
 use borrow.Author.Needs.{needs}
-use mathlib.Core.Path.{_∙_}
 use native.Mathlib.Omega.{arith}
 use Rattle.sheet.proofs.Accepted.{is-form1, is-no-form}
 use Rattle.sheet.proofs.leaf_count.Statement.{statement}

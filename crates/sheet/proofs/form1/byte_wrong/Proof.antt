@@ -1,6 +1,5 @@
 -- The parts that the loops are lent are the literals and the nodes.
 use borrow.Author.Needs.{needs}
-use mathlib.Core.Path.{sym, _∙_}
 use native.Mathlib.Omega.{arith}
 use Rattle.sheet.proofs.Literals.{all-literals, both-counts}
 use Rattle.sheet.proofs.form1.byte_wrong.Statement.{statement}
