@@ -192,10 +192,8 @@ fn next_reading(sheet: &[u8], name: &[u8], mapping: &mut [u8], work: &mut [u8]) 
         return Step::Unread;
     }
     rows::fill(work, name, &follow, &stops, &letters);
-    if choices::advance(mapping, name, work, &follow) {
-        return Step::Found;
-    }
-    Step::Absent
+    let moved = choices::advance(mapping, name, work, &follow);
+    if moved { Step::Found } else { Step::Absent }
 }
 
 // How many of n entries stay in the mapping.
@@ -280,8 +278,8 @@ pub fn next(sheet: &[u8], name: &[u8], mapping: &mut [u8], work: &mut [u8]) -> A
     ensures { λ r. ⌜ NextCall (now (sheet .entry)) (now (name .entry)) (now (mapping .entry)) (now (work .entry)) (endOf r (now (mapping .exit)) (now (work .exit))) ⌝ }
 {
     let t = call_test(sheet, name, Lent::Mapping(mapping.len()), work);
-    if let Test::Refused(a) = t {
-        return refuse(mapping, a);
+    if let Test::Refused(why) = t {
+        return refuse(mapping, why);
     }
     let s = next_reading(sheet, name, mapping, work);
     wipe_rows(work, name);

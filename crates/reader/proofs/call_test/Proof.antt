@@ -11,6 +11,7 @@ test-requires c κs = search needs
 enum-known-s : tie.Need-enum-known-s
 enum-known-s c = search needs
 
+-- The sheet's refusal comes first; then those of the name.
 returns : tie.Need-returns
 returns c =
     let tested = c .before .before .before in

@@ -50,6 +50,7 @@ same-length c = search needs
 same-length-2 : tie.Need-same-length-2
 same-length-2 c = search needs
 
+-- Where the first row begins a reading, the choices from the start are the least one.
 returns : tie.Need-returns
 returns c =
     let chosen = c .before .before in

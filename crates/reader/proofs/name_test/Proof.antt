@@ -4,6 +4,7 @@ use mathlib.Core.Path.{sym, _∙_}
 use Rattle.reader.proofs.name_test.Statement.{statement}
 use Rattle.reader.proofs.name_test.Tie as tie
 
+-- The first of the three tests that is true is the first ground that holds.
 returns : tie.Need-returns
 returns c = let g = c .before .before .before .args in name-long (g .name .now) (g .lent) (g .work .now) (c .if1 .taken)
 

@@ -33,6 +33,7 @@ is-reading-requires c κs = search needs
 same-length : tie.Need-same-length
 same-length c = search needs
 
+-- The sequence is no reading; below, it is one, and it moves or it does not.
 returns : tie.Need-returns
 returns c =
     let read = c .before in
@@ -63,8 +64,8 @@ advance-requires : tie.Need-advance-requires
 advance-requires c κs = (
   search (needs, c .before .before .before .before .before .fill .kept .0),
   let filled = c .before .before .before .before .before in
-  let branch = filled .before .before .before .before .before in
-  branch .before .is-reading .ensures .1 (not-false _ (branch .if1 .left)),
+      let branch = filled .before .before .before .before .before in
+      branch .before .is-reading .ensures .1 (not-false _ (branch .if1 .left)),
 )
 
 same-length-2 : tie.Need-same-length-2

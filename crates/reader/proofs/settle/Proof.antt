@@ -16,6 +16,7 @@ answer-of-requires c κs = search needs
 same-length : tie.Need-same-length
 same-length c = search needs
 
+-- What is kept and zeros after it are what the search leaves.
 returns : tie.Need-returns
 returns c =
     let wiped = c .before .before .before in

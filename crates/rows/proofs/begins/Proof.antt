@@ -30,9 +30,9 @@ returns-2 c =
     let branch = loaded .before .before in
     let args = branch .before .before .before .before .before .args in
     λ P f s r.
-        c .meets .ensures ∙
-        begins-some P (args .follow .now) (args .stops .now) f s (args .name .now) (args .work .now)
-        (loaded .load-row .last .1 .0) (branch .if1 .left) r (loaded .load-row .ensures)
+    c .meets .ensures ∙
+    begins-some P (args .follow .now) (args .stops .now) f s (args .name .now) (args .work .now)
+    (loaded .load-row .last .1 .0) (branch .if1 .left) r (loaded .load-row .ensures)
 
 pub begins-spec : {M : Type 1} → statement M
 begins-spec =

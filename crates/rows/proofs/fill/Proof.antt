@@ -10,6 +10,7 @@ use mathlib.Core.Path.{_≡_, refl, _∙_}
 use Rattle.rows.proofs.fill.Statement.{statement}
 use Rattle.rows.proofs.fill.Tie as tie
 
+-- The rows from place i on are filled; each turn fills the row before them from the first of them.
 abbrev Inv-loop : tie.InvT-loop
 Inv-loop work₀ name follow stops letters i₀ work i = (i < length name) × (length work ≡ length work₀) × ((P : Pattern) → Follows P follow → Stops P stops → Letters P letters → RowsFrom P name work i) × (rowAt work (length name) ≡ rowAt work₀ (length name))
 

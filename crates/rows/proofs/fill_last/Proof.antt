@@ -31,6 +31,7 @@ store-row-requires c κs = search needs
 same-length : tie.Need-same-length
 same-length c = search needs
 
+-- A position is live if it takes the last byte and a word may end after it.
 returns : tie.Need-returns
 returns c =
     let copied = c .before .before .before .before .before .before .before .before .before in

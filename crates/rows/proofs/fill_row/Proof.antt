@@ -47,6 +47,7 @@ store-row-requires c κs = search needs
 same-length : tie.Need-same-length
 same-length c = search needs
 
+-- A position is live if it takes the byte and one of the row after it may come next.
 returns : tie.Need-returns
 returns c =
     let sifted = c .before .before .before .before .before .before in
