@@ -9,7 +9,6 @@ use lib.Dec.{leb}
 use lib.ListN.{length, getD, drop, drop-of-length-le}
 use lib.Seq.{drop-cons}
 use borrow.Author.Tests.{le-leb}
-use Rattle.rules.specs.Limits.{entries}
 use Rattle.language.specs.Tree.{size}
 use Rattle.language.specs.Reading.{Pattern}
 use Rattle.language.specs.Local.{Numbered}
@@ -20,7 +19,6 @@ use Rattle.bits.specs.Sets.{setBits, has}
 use Rattle.bits.proofs.Stores.{has-below}
 use Rattle.automaton.specs.Tables.{Follows, Stops, Letters, letterOf}
 use Rattle.rows.proofs.Live.{T-true}
-use Rattle.choices.proofs.Entries.{entries-length, entry-is}
 
 -- what is no member of any set
 pub has-off : (xs : List ℕ) (k q : ℕ) → setBits ≤ q → has xs k q ≡ false
@@ -45,32 +43,27 @@ ok-is P n follow letters f l p b q =
     (λ e. let i = bounded P n p b q (T-true (okIn P p b q) e) in (le-leb 1 q (i .low), le-leb q (size (P .tree)) (omega (arith, i .high)))))
 
 -- what is left to follow at place i, after p, decides
-pub record Followed (P : Pattern) (name mapping : List ℕ) (i p : ℕ) : Type 0 where
-  pub left :
-      isReading P name (entries (length name) mapping)
-      ≡ reads (okIn P) (stop (P .tree)) (size (P .tree)) p (drop i name) (drop i (entries (length name) mapping))
+pub record Followed (P : Pattern) (name w : List ℕ) (i p : ℕ) : Type 0 where
+  pub left : isReading P name w ≡ reads (okIn P) (stop (P .tree)) (size (P .tree)) p (drop i name) (drop i w)
 
-module _ {P : Pattern} {name mapping : List ℕ} {i p : ℕ} (held : length name ≤ length mapping) (so-far : Followed P name mapping i p) where
+module _ {P : Pattern} {name w : List ℕ} {i p : ℕ} (long : length w ≡ length name) (so-far : Followed P name w i p) where
   module _ (n : Numbered 1 (1 + size (P .tree)) (P .tree)) (follow letters : List ℕ) (f : Follows P follow) (l : Letters P letters) {q : ℕ} {r : Bool}
-      (inside : i < length name) (entry : q ≡ getD mapping i 0) (test : r ≡ (has follow p q && has letters (letterOf (getD name i 0)) q)) where
-    there : i < length (entries (length name) mapping)
-    there = rw (entries-length (length name) mapping held) inside
-
-    is : getD (entries (length name) mapping) i 0 ≡ q
-    is = entry-is (length name) mapping i inside ∙ sym entry
+      (inside : i < length name) (entry : q ≡ getD w i 0) (test : r ≡ (has follow p q && has letters (letterOf (getD name i 0)) q)) where
+    there : i < length w
+    there = omega arith
 
     ok : {b : Bool} → r ≡ b → okIn P p (getD name i 0) q ≡ b
     ok e = sym (ok-is P n follow letters f l p (getD name i 0) q) ∙ sym test ∙ e
 
-    pub followed-on : r ≡ true → Followed P name mapping (i + 1) q
+    pub followed-on : r ≡ true → Followed P name w (i + 1) q
     followed-on e =
-        record { left = so-far .left ∙ rw (add-one i, drop-cons name i 0 inside, drop-cons (entries (length name) mapping) i 0 there, is, ok e) refl }
+        record { left = so-far .left ∙ rw (add-one i, drop-cons name i 0 inside, drop-cons w i 0 there, ← entry, ok e) refl }
 
-    pub followed-off : r ≡ false → false ≡ isReading P name (entries (length name) mapping)
-    followed-off e = sym (so-far .left ∙ rw (drop-cons name i 0 inside, drop-cons (entries (length name) mapping) i 0 there, is, ok e) refl)
+    pub followed-off : r ≡ false → false ≡ isReading P name w
+    followed-off e = sym (so-far .left ∙ rw (drop-cons name i 0 inside, drop-cons w i 0 there, ← entry, ok e) refl)
 
-  pub followed-end : (stops : List ℕ) {r : Bool} → Stops P stops → length name ≤ i → r ≡ has stops 0 p → r ≡ isReading P name (entries (length name) mapping)
+  pub followed-end : (stops : List ℕ) {r : Bool} → Stops P stops → length name ≤ i → r ≡ has stops 0 p → r ≡ isReading P name w
   followed-end stops s h e =
       let all = drop-of-length-le name {i = i} h in
-      let none = drop-of-length-le (entries (length name) mapping) {i = i} (omega (arith, entries-length (length name) mapping held)) in
+      let none = drop-of-length-le w {i = i} (omega arith) in
       e ∙ s p ∙ sym (so-far .left ∙ rw (all, none) refl)

@@ -1,4 +1,3 @@
-pub mod Entries
 pub mod Picks
 pub mod Along
 pub mod Checked

@@ -10,18 +10,16 @@ use native.Mathlib.Numerals.{add-one}
 use native.Mathlib.Omega.{arith}
 use lib.Dec.{T, lt→ltb}
 use lib.ListN.{length, getD, take, drop, set}
-use lib.Seq.{drop-cons, drop-length, take-take, take-suc-set}
-use Rattle.rules.specs.Limits.{entries}
+use lib.Seq.{drop-cons, drop-length, take-suc-set}
 use Rattle.language.specs.Tree.{size}
 use Rattle.language.specs.Reading.{Pattern}
 use Rattle.language.specs.Follow.{stop}
 use Rattle.language.specs.Search.{pick, next, afresh, okIn, nextReading}
 use Rattle.language.proofs.Places.{next-from, next-here}
-use Rattle.bits.specs.Sets.{has, rowHas, LeastFrom, found, nowhere}
+use Rattle.bits.specs.Sets.{setBits, has, rowHas, LeastFrom, found, nowhere}
 use Rattle.automaton.specs.Tables.{Follows}
 use Rattle.rows.specs.Rows.{readable, rowAt, RowsOf}
-use Rattle.choices.specs.Moves.{chosen}
-use Rattle.choices.proofs.Entries.{entries-are, entries-length, entry-is, before-is}
+use Rattle.choices.specs.Moves.{chosen, Small}
 use Rattle.choices.proofs.Picks.{least-above, fine, picked-live, later-pick}
 
 -- ---- later positions of one place: f is live, g may come next
@@ -73,52 +71,46 @@ abbrev nextAt : Pattern → List ℕ → List ℕ → ℕ → Option (List ℕ)
 nextAt P name w i = next (okIn P) (stop (P .tree)) (size (P .tree)) (drop i name) (getD (0 ∷ w) i 0) (drop i w)
 
 -- nothing does
-pub record Still (P : Pattern) (name mapping : List ℕ) (i : ℕ) : Type 0 where
-  pub stays : nextAt P name (entries (length name) mapping) i ≡ none
+pub record Still (P : Pattern) (name w : List ℕ) (i : ℕ) : Type 0 where
+  pub stays : nextAt P name w i ≡ none
 
-pub still-start : {P : Pattern} {name mapping : List ℕ} → Still P name mapping (length name)
+pub still-start : {P : Pattern} {name w : List ℕ} → Still P name w (length name)
 still-start {name = name} = record { stays = rw (drop-length name) refl }
 
--- r is the least position after the entry of place i that is live and may come after p
+-- r is the least position after entry i of w that is live and may come after p
 abbrev pub MovesTo : List ℕ → List ℕ → List ℕ → ℕ → ℕ → ℕ → Type 0
-MovesTo follow work mapping i p r = LeastFrom (λ x. rowHas (rowAt work i) x && has follow p x) (suc (getD mapping i 0)) r
+MovesTo follow work w i p r = LeastFrom (λ x. rowHas (rowAt work i) x && has follow p x) (suc (getD w i 0)) r
 
 -- it is the turn of place i, after p
-module _ {P : Pattern} {name mapping : List ℕ} {left : ℕ} (still : Still P name mapping left) (fits : left ≤ length name) (held : length name ≤ length mapping)
-    (follow work : List ℕ) (f : Follows P follow) (rows : RowsOf P name work) (i : ℕ) (e : suc i ≡ left) {p : ℕ} (before : p ≡ getD (0 ∷ mapping) i 0) where
-  abbrev w : List ℕ
-  w = entries (length name) mapping
-
+module _ {P : Pattern} {name w : List ℕ} {left : ℕ} (still : Still P name w left) (fits : left ≤ length name) (long : length w ≡ length name)
+    (follow work : List ℕ) (f : Follows P follow) (rows : RowsOf P name work) (i : ℕ) (e : suc i ≡ left) {p : ℕ} (before : p ≡ getD (0 ∷ w) i 0) where
   abbrev bs : List ℕ
   bs = drop (suc i) name
 
   inside : i < length name
   inside = omega arith
 
-  is-picked : (r : ℕ) → MovesTo follow work mapping i p r → r ≡ pick (fine P (getD name i 0) bs p) (suc (getD mapping i 0)) (size (P .tree) - getD mapping i 0)
-  is-picked r = later-pick P (getD name i 0) bs follow (rowAt work i) f (rows i inside) p (getD mapping i 0) r
+  is-picked : (r : ℕ) → MovesTo follow work w i p r → r ≡ pick (fine P (getD name i 0) bs p) (suc (getD w i 0)) (size (P .tree) - getD w i 0)
+  is-picked r = later-pick P (getD name i 0) bs follow (rowAt work i) f (rows i inside) p (getD w i 0) r
 
-  here : (r : ℕ) → MovesTo follow work mapping i p r → nextAt P name w i ≡ afresh (okIn P) (stop (P .tree)) (size (P .tree)) bs r
+  here : (r : ℕ) → MovesTo follow work w i p r → nextAt P name w i ≡ afresh (okIn P) (stop (P .tree)) (size (P .tree)) bs r
   here r l =
-      let after = before-is (length name) mapping i (omega (arith, inside)) ∙ sym before in
-      let long : i < length w = rw (entries-length (length name) mapping held) inside in
-      let entry = entry-is (length name) mapping i inside in
-      let rest = rw (← e, entry) at (still .stays) in
-      rw (after, drop-cons name i 0 inside, drop-cons w i 0 long, entry, is-picked r l)
-      (next-here (okIn P) (stop (P .tree)) (size (P .tree)) (getD name i 0) bs p (getD mapping i 0) (drop (suc i) w) rest)
+      let rest = rw (← e) at (still .stays) in
+      rw (← before, drop-cons name i 0 inside, drop-cons w i 0 (omega (arith, inside)), is-picked r l)
+      (next-here (okIn P) (stop (P .tree)) (size (P .tree)) (getD name i 0) bs p (getD w i 0) (drop (suc i) w) rest)
 
-  pub still-turn : MovesTo follow work mapping i p 0 → Still P name mapping i
+  pub still-turn : MovesTo follow work w i p 0 → Still P name w i
   still-turn l = record { stays = here 0 l }
 
   -- the place moves to r
-  pub moves : {r : ℕ} → (r ≡ 0 → ⊥) → MovesTo follow work mapping i p r
-      → T (readable P (drop (suc i) name) r) × (nextReading P name (entries (length name) mapping) ≡ some (take i (entries (length name) mapping) ++ r ∷ chosen P (drop (suc i) name) r))
+  pub moves : {r : ℕ} → (r ≡ 0 → ⊥) → MovesTo follow work w i p r
+      → T (readable P (drop (suc i) name) r) × (nextReading P name w ≡ some (take i w ++ r ∷ chosen P (drop (suc i) name) r))
   moves {r} z l = (
-    rw picked (picked-live P (getD name i 0) bs p (suc (getD mapping i 0)) (size (P .tree) - getD mapping i 0) (rw (← picked) (lt→ltb 0 r (omega arith)))),
+    rw picked (picked-live P (getD name i 0) bs p (suc (getD w i 0)) (size (P .tree) - getD w i 0) (rw (← picked) (lt→ltb 0 r (omega arith)))),
     next-from (okIn P) (stop (P .tree)) (size (P .tree)) i name w (r ∷ chosen P bs r) 0 (here r l ∙ some-afresh r (omega arith)),
   )
     where
-      picked : r ≡ pick (fine P (getD name i 0) bs p) (suc (getD mapping i 0)) (size (P .tree) - getD mapping i 0)
+      picked : r ≡ pick (fine P (getD name i 0) bs p) (suc (getD w i 0)) (size (P .tree) - getD w i 0)
       picked = is-picked r l
 
       some-afresh : (r : ℕ) → 0 < r → afresh (okIn P) (stop (P .tree)) (size (P .tree)) bs r ≡ some (r ∷ chosen P bs r)
@@ -126,10 +118,11 @@ module _ {P : Pattern} {name mapping : List ℕ} {left : ℕ} (still : Still P n
       some-afresh (suc r) z = refl
 
 -- the entry is put, and all after it is chosen
-pub advanced : (P : Pattern) (name mapping end : List ℕ) {put : List ℕ} {i : ℕ} (q : ℕ) → i < length name → length name ≤ length mapping → put ≡ set mapping i q
-    → take (length name) end ≡ take (i + 1) put ++ chosen P (drop (i + 1) name) q
-    → nextReading P name (entries (length name) mapping) ≡ some (take i (entries (length name) mapping) ++ q ∷ chosen P (drop (suc i) name) q)
-    → nextReading P name (entries (length name) mapping) ≡ some (take (length name) end)
-advanced P name mapping end {i = i} q h k p e m =
-    let whole : take (length name) end ≡ take i mapping ++ q ∷ chosen P (drop (suc i) name) q = e ∙ rw (p, add-one i, take-suc-set mapping i q (omega arith), append-assoc) refl in
-    m ∙ ap some (rw (entries-are (length name) mapping, take-take i (length name) mapping (omega arith)) (sym whole))
+pub advanced : (P : Pattern) (name w : List ℕ) {v put : List ℕ} {i : ℕ} (q : ℕ) → i < length w → put ≡ set w i q → v ≡ take (i + 1) put ++ chosen P (drop (i + 1) name) q
+    → nextReading P name w ≡ some (take i w ++ q ∷ chosen P (drop (suc i) name) q) → nextReading P name w ≡ some v
+advanced P name w {i = i} q h p e m = m ∙ ap some (sym (e ∙ rw (p, add-one i, take-suc-set w i q h, append-assoc) refl))
+
+-- what every entry is, the entry before a place is too
+pub before-small : (w : List ℕ) (i : ℕ) {n : ℕ} → i ≤ n → Small n w → getD (0 ∷ w) i 0 < setBits
+before-small w zero h s = omega arith
+before-small w (suc i) h s = s i h

@@ -5,7 +5,7 @@ use mathlib.Core.Option.{none, some}
 use mathlib.Core.List.{List, _∷_, _++_}
 use Prim.Native.Nat.{ℕ, suc, _<_}
 use lib.Dec.{T}
-use lib.ListN.{take, drop}
+use lib.ListN.{take, drop, getD}
 use Rattle.language.specs.Tree.{size}
 use Rattle.language.specs.Reading.{Pattern}
 use Rattle.language.specs.Follow.{stop}
@@ -18,6 +18,10 @@ use Rattle.choices.specs.declared.Move.the-variants.{At, Nowhere}
 -- the bytes read after p, always by the least position that leaves the rest readable
 abbrev pub chosen : Pattern → List ℕ → ℕ → List ℕ
 chosen P bs p = greedy (okIn P) (stop (P .tree)) (size (P .tree)) bs p
+
+-- the first n of w are such as a set can have
+abbrev pub Small : ℕ → List ℕ → Type 0
+Small n w = (i : ℕ) → i < n → getD w i 0 < setBits
 
 -- the place and the position are such
 abbrev pub Within : ℕ → Move → Type 0

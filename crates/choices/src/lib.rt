@@ -1,11 +1,12 @@
 // Choices among live positions: the least reading of a name, the reading after a given one, and whether a sequence is a reading.
 ghost use mathlib.Core.Path.{_≡_};
 ghost use mathlib.Core.Bool.{_&&_, true};
-ghost use mathlib.Core.List.{_∷_, _++_};
+ghost use mathlib.Core.List.{_++_};
 ghost use Prim.Native.Nat.{ℕ, _+_, _*_, _<_, _≤_};
 ghost use lib.Dec.{T};
-ghost use lib.ListN.{length, getD, take, drop, set};
-ghost use Rattle.rules.specs.Limits.{byteValues, nameLimit, rowSize, areaFor, entries};
+ghost use lib.ListN.{length, take, drop};
+ghost use Rattle.rules.specs.Limits.{nameLimit, rowSize, areaFor};
+ghost use Rattle.mapping.specs.Entries.{entrySize, entryValues, beyond, given};
 ghost use Rattle.language.specs.Tree.{size};
 ghost use Rattle.language.specs.Local.{Numbered};
 ghost use Rattle.language.specs.Reading.{Pattern};
@@ -14,45 +15,17 @@ ghost use Rattle.bits.specs.Sets.{setWords, setBits, has, rowHas, LeastFrom};
 ghost use Rattle.automaton.specs.Tables.{followWords, letterWords, letterOf};
 ghost use Rattle.automaton.specs.Tables.{Follows, Stops, Letters};
 ghost use Rattle.rows.specs.Rows.{readable, rowAt, RowsOf};
-ghost use Rattle.choices.specs.Moves.{chosen, Within, Moved, Advanced};
+ghost use Rattle.choices.specs.Moves.{chosen, Small, Within, Moved, Advanced};
 use bits::SET_BITS;
 use bits::SET_WORDS;
-use rows::Place;
-use rows::Position;
+use mapping::Place;
+use mapping::Position;
 use rules::ROW_SIZE;
 
 // Where a reading can move on.
 pub enum Move {
     At(Place, Position),
     Nowhere,
-}
-
-// The entry for a place: one byte a position.
-fn entry(mapping: &[u8], i: Place) -> Position
-    requires { ⌜ i .0 < length (now mapping) ⌝ }
-    ensures { λ r. ⌜ (r .0 ≡ getD (now (mapping .entry)) (i .0) 0) × (r .0 < byteValues) ⌝ }
-{
-    let at = i.0;
-    Position(buffers::wide(mapping[at]))
-}
-
-// The entry before a place; at the first place, the start.
-fn entry_before(mapping: &[u8], i: Place) -> Position
-    requires { ⌜ i .0 < length (now mapping) ⌝ }
-    ensures { λ r. ⌜ r .0 ≡ getD (0 ∷ now (mapping .entry)) (i .0) 0 ⌝ }
-{
-    if i.0 == 0 {
-        return Position(0);
-    }
-    entry(mapping, Place(i.0 - 1))
-}
-
-fn put_entry(mapping: &mut [u8], i: Place, q: Position)
-    requires { ⌜ (i .0 < length (now mapping)) × (q .0 < setBits) ⌝ }
-    ensures { λ _. ⌜ now (mapping .exit) ≡ set (now (mapping .entry)) (i .0) (q .0) ⌝ }
-{
-    let at = i.0;
-    mapping[at] = q.0 as u8;
 }
 
 // Whether q may come after p.
@@ -86,16 +59,16 @@ pub fn is_reading(
     stops: &[u64],
     letters: &[u64],
 ) -> bool
-    requires { ⌜ length (now name) ≤ length (now mapping) ⌝ }
+    requires { ⌜ entrySize * length (now name) ≤ length (now mapping) ⌝ }
     requires { ⌜ (followWords ≤ length (now follow)) × (setWords ≤ length (now stops)) × (letterWords ≤ length (now letters)) ⌝ }
     ensures { λ r. ⌜ ((P : Pattern) → Numbered 1 (1 + size (P .tree)) (P .tree) → Follows P (now (follow .entry)) → Stops P (now (stops .entry)) → Letters P (now (letters .entry))
-        → r ≡ isReading P (now (name .entry)) (entries (length (now (name .entry))) (now (mapping .entry)))) ⌝ }
-    ensures { λ r. ⌜ (r ≡ true → (i : ℕ) → i < length (now (name .entry)) → getD (now (mapping .entry)) i 0 < setBits) ⌝ }
+        → r ≡ isReading P (now (name .entry)) (given (now (name .entry)) (now (mapping .entry)))) ⌝ }
+    ensures { λ r. ⌜ (r ≡ true → Small (length (now (name .entry))) (given (now (name .entry)) (now (mapping .entry)))) ⌝ }
 {
     let mut p = Position(0);
     let mut i = 0;
     while i < name.len() {
-        let q = entry(mapping, Place(i));
+        let q = mapping::entry(mapping, Place(i));
         if !reads_on(follow, letters, p, name[i], q) {
             return false;
         }
@@ -127,24 +100,24 @@ pub fn choose(
     from: Place,
     after: Position,
 )
-    requires { ⌜ (from .0 ≤ length (now name)) × (length (now name) ≤ nameLimit) × (length (now name) ≤ length (now mapping)) × (areaFor (now name) ≤ length (now work)) ⌝ }
+    requires { ⌜ (from .0 ≤ length (now name)) × (length (now name) ≤ nameLimit) × (entrySize * length (now name) ≤ length (now mapping)) × (areaFor (now name) ≤ length (now work)) ⌝ }
     requires { ⌜ (followWords ≤ length (now follow)) × (after .0 < setBits) ⌝ }
     ensures { λ _. ⌜ ((P : Pattern) → Follows P (now (follow .entry)) → RowsOf P (now (name .entry)) (now (work .entry)) → T (readable P (drop (from .0) (now (name .entry))) (after .0))
-        → take (length (now (name .entry))) (now (mapping .exit)) ≡ take (from .0) (now (mapping .entry)) ++ chosen P (drop (from .0) (now (name .entry))) (after .0)) ⌝ }
-    ensures { λ _. ⌜ drop (length (now (name .entry))) (now (mapping .exit)) ≡ drop (length (now (name .entry))) (now (mapping .entry)) ⌝ }
+        → given (now (name .entry)) (now (mapping .exit)) ≡ take (from .0) (given (now (name .entry)) (now (mapping .entry))) ++ chosen P (drop (from .0) (now (name .entry))) (after .0)) ⌝ }
+    ensures { λ _. ⌜ beyond (length (now (name .entry))) (now (mapping .exit)) ≡ beyond (length (now (name .entry))) (now (mapping .entry)) ⌝ }
 {
     let mut p = after;
     let mut i = from.0;
     while i < name.len() {
         p = choice(work, follow, Place(i), p);
-        put_entry(mapping, Place(i), p);
+        mapping::put(mapping, Place(i), p);
         i += 1;
     }
 }
 
 // The least live position of a place after q; the start if there is none.
 fn later(work: &[u8], i: Place, q: Position) -> Position
-    requires { ⌜ (i .0 < nameLimit) × (rowSize * (i .0 + 1) ≤ length (now work)) × (q .0 < byteValues) ⌝ }
+    requires { ⌜ (i .0 < nameLimit) × (rowSize * (i .0 + 1) ≤ length (now work)) × (q .0 < entryValues) ⌝ }
     ensures { λ r. ⌜ LeastFrom (rowHas (rowAt (now (work .entry)) (i .0))) (q .0 + 1) (r .0) ⌝ }
     ensures { λ r. ⌜ r .0 < setBits ⌝ }
 {
@@ -156,17 +129,17 @@ fn later(work: &[u8], i: Place, q: Position) -> Position
 
 // The first place from the right whose entry can move to a later position with the rest still readable, and the least such position.
 pub fn last_move(name: &[u8], mapping: &[u8], work: &[u8], follow: &[u64]) -> Move
-    requires { ⌜ (length (now name) ≤ nameLimit) × (length (now name) ≤ length (now mapping)) × (areaFor (now name) ≤ length (now work)) × (followWords ≤ length (now follow)) ⌝ }
-    requires { ⌜ ((i : ℕ) → i < length (now name) → getD (now mapping) i 0 < setBits) ⌝ }
+    requires { ⌜ (length (now name) ≤ nameLimit) × (entrySize * length (now name) ≤ length (now mapping)) × (areaFor (now name) ≤ length (now work)) × (followWords ≤ length (now follow)) ⌝ }
+    requires { ⌜ Small (length (now name)) (given (now name) (now mapping)) ⌝ }
     ensures { λ r. ⌜ Within (length (now (name .entry))) r ⌝ }
-    ensures { λ r. ⌜ ((P : Pattern) → Follows P (now (follow .entry)) → RowsOf P (now (name .entry)) (now (work .entry)) → Moved P (now (name .entry)) (entries (length (now (name .entry))) (now (mapping .entry))) r) ⌝ }
+    ensures { λ r. ⌜ ((P : Pattern) → Follows P (now (follow .entry)) → RowsOf P (now (name .entry)) (now (work .entry)) → Moved P (now (name .entry)) (given (now (name .entry)) (now (mapping .entry))) r) ⌝ }
 {
     let mut found = Move::Nowhere;
     let mut left = name.len();
     'search: while 0 < left {
         let i = left - 1;
-        let before = entry_before(mapping, Place(i));
-        let mut q = entry(mapping, Place(i));
+        let before = mapping::entry_before(mapping, Place(i));
+        let mut q = mapping::entry(mapping, Place(i));
         loop {
             q = later(work, Place(i), q);
             if q.0 == 0 {
@@ -184,17 +157,17 @@ pub fn last_move(name: &[u8], mapping: &[u8], work: &[u8], follow: &[u64]) -> Mo
 
 // Makes of a reading in the mapping the next one, if there is one.
 pub fn advance(mapping: &mut [u8], name: &[u8], work: &[u8], follow: &[u64]) -> bool
-    requires { ⌜ (length (now name) ≤ nameLimit) × (length (now name) ≤ length (now mapping)) × (areaFor (now name) ≤ length (now work)) × (followWords ≤ length (now follow)) ⌝ }
-    requires { ⌜ ((i : ℕ) → i < length (now name) → getD (now mapping) i 0 < setBits) ⌝ }
+    requires { ⌜ (length (now name) ≤ nameLimit) × (entrySize * length (now name) ≤ length (now mapping)) × (areaFor (now name) ≤ length (now work)) × (followWords ≤ length (now follow)) ⌝ }
+    requires { ⌜ Small (length (now name)) (given (now name) (now mapping)) ⌝ }
     ensures { λ r. ⌜ ((P : Pattern) → Follows P (now (follow .entry)) → RowsOf P (now (name .entry)) (now (work .entry))
-        → Advanced P (now (name .entry)) (entries (length (now (name .entry))) (now (mapping .entry))) (take (length (now (name .entry))) (now (mapping .exit))) r) ⌝ }
-    ensures { λ r. ⌜ drop (length (now (name .entry))) (now (mapping .exit)) ≡ drop (length (now (name .entry))) (now (mapping .entry)) ⌝ }
+        → Advanced P (now (name .entry)) (given (now (name .entry)) (now (mapping .entry))) (given (now (name .entry)) (now (mapping .exit))) r) ⌝ }
+    ensures { λ r. ⌜ beyond (length (now (name .entry))) (now (mapping .exit)) ≡ beyond (length (now (name .entry))) (now (mapping .entry)) ⌝ }
 {
     let m = last_move(name, mapping, work, follow);
     let Move::At(i, q) = m else {
         return false;
     };
-    put_entry(mapping, i, q);
+    mapping::put(mapping, i, q);
     choose(mapping, name, work, follow, Place(i.0 + 1), q);
     true
 }

@@ -3,14 +3,15 @@ use mathlib.Core.Path.{_≡_, refl, ap, sym, _∙_}
 use mathlib.Core.Bool.{Bool}
 use mathlib.Core.Option.{none, some}
 use mathlib.Core.List.{List, [], _∷_}
-use Prim.Native.Nat.{ℕ, suc, _*_, _-_, _≤_}
+use Prim.Native.Nat.{ℕ, suc, _*_, _≤_}
 use native.Mathlib.Omega.{arith}
-use lib.ListN.{length, replicate}
-use lib.Seq.{take-at}
+use lib.ListN.{length}
 use borrow.Author.Tests.{le-ltb}
-use Rattle.rules.specs.Limits.{nameLimit, entrySize, areaFor, stored, filled}
+use Rattle.rules.specs.Limits.{nameLimit, areaFor, filled}
 use Rattle.rules.specs.Grounds.{firstOf}
 use Rattle.rules.proofs.Grounds.{some-eq, later-part}
+use Rattle.mapping.specs.Entries.{entrySize, stored, given}
+use Rattle.mapping.proofs.Entries.{entries-filled}
 use Rattle.language.specs.Reading.{Pattern, Spells, Reading}
 use Rattle.language.specs.Order.{FirstReading, NextReading, NoReading, NoMore}
 use Rattle.language.specs.Listing.{Onward, Listing}
@@ -20,7 +21,7 @@ use Rattle.sheet.specs.Refusals.{sheetGrounds, sheetRefusal}
 use Rattle.sheet.specs.Stands.{standsFor}
 use Rattle.sheet.proofs.Accepted.{standing}
 use Rattle.reader.specs.Refusals.{nameGrounds, mappingGrounds}
-use Rattle.reader.specs.Outcome.{End, answeredWith, given, FirstWent, found, absent, NextWent, foundNext, noMore, unread}
+use Rattle.reader.specs.Outcome.{End, answeredWith, FirstWent, found, absent, NextWent, foundNext, noMore, unread}
 use Rattle.claims.specs.Demand3.{Enough, Gives, GoesOn, Asking, Demand3}
 use Rattle.claims.proofs.Demand2.{went}
 
@@ -35,7 +36,7 @@ module _ (sheet name : List ℕ) (P : Pattern) (fine : sheetRefusal sheet ≡ no
   -- nothing is refused where the buffers are long enough
   none-refused : (mapping work : List ℕ) → Enough name mapping work → firstOf (mappingGrounds sheet name mapping work) ≡ none
   none-refused mapping work b =
-      later-part (sheetGrounds sheet) (nameGrounds name mapping work) fine
+      later-part (sheetGrounds sheet) (nameGrounds name (some (length mapping)) work) fine
       ∙ rw (le-ltb nameLimit (length name) small, le-ltb (length mapping) (entrySize * length name) (b .mapped), le-ltb (length work) (areaFor name) (b .area)) refl
 
   this-pattern : {Q : Pattern} → standsFor sheet ≡ some Q → Q ≡ P
@@ -43,9 +44,7 @@ module _ (sheet name : List ℕ) (P : Pattern) (fine : sheetRefusal sheet ≡ no
 
   -- a reading that fills the mapping is given again by it
   given-again : (mapping r : List ℕ) → Reading P name r → given name (filled mapping (stored r)) ≡ r
-  given-again mapping r x =
-      let l : length r ≡ entrySize * length name = omega (arith, spells-length (P .takes) r name (x .spells)) in
-      take-at r (replicate (length mapping - length r) 0) (entrySize * length name) l
+  given-again mapping r x = entries-filled (length name) mapping r (spells-length (P .takes) r name (x .spells))
 
   gives : (mapping work r : List ℕ) → Reading P name r → Gives name mapping r (answeredWith name work 0 (filled mapping (stored r)))
   gives mapping work r x = record { number = refl; buffer = refl; again = given-again mapping r x }

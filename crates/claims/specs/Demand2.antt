@@ -4,9 +4,10 @@ use mathlib.Core.Logic.{_↔_}
 use mathlib.Core.Option.{none, some}
 use mathlib.Core.List.{List}
 use Prim.Native.Nat.{ℕ}
-use Rattle.rules.specs.Limits.{stored, wiped, filled}
+use Rattle.rules.specs.Limits.{wiped, filled}
 use Rattle.rules.specs.Numbers.{done, no}
 use Rattle.rules.specs.Grounds.{firstOf}
+use Rattle.mapping.specs.Entries.{stored}
 use Rattle.language.specs.Reading.{Pattern, Language, Reading}
 use Rattle.language.specs.Order.{FirstReading}
 use Rattle.sheet.specs.Refusals.{sheetRefusal}

@@ -5,13 +5,14 @@ use mathlib.Core.Option.{none, some}
 use mathlib.Core.List.{List, [], _∷_}
 use Prim.Native.Nat.{ℕ, _*_, _≤_}
 use lib.ListN.{length}
-use Rattle.rules.specs.Limits.{nameLimit, entrySize, areaFor, stored, filled}
+use Rattle.rules.specs.Limits.{nameLimit, areaFor, filled}
 use Rattle.rules.specs.Numbers.{done, no}
+use Rattle.mapping.specs.Entries.{entrySize, stored, given}
 use Rattle.language.specs.Reading.{Pattern}
 use Rattle.language.specs.Listing.{Whole}
 use Rattle.sheet.specs.Refusals.{sheetRefusal}
 use Rattle.sheet.specs.Stands.{standsFor}
-use Rattle.reader.specs.Outcome.{End, given, FirstCall, NextCall}
+use Rattle.reader.specs.Outcome.{End, FirstCall, NextCall}
 
 -- the buffers are long enough for the name; what they hold plays no part
 pub record Enough (name mapping work : List ℕ) : Type 0 where

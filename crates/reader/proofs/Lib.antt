@@ -1,6 +1,5 @@
 pub mod Settled
 pub mod Answers
 pub mod Tests
-pub mod Areas
 pub mod Ends
 pub mod Searches

@@ -3,10 +3,12 @@ use mathlib.Core.Path.{_≡_, refl, ap, sym, _∙_}
 use mathlib.Core.Option.{Option, none, some}
 use mathlib.Core.List.{List, []}
 use Prim.Native.Nat.{ℕ, _+_}
-use Rattle.rules.specs.Limits.{wiped, filled, stored}
+use lib.ListN.{length}
+use Rattle.rules.specs.Limits.{wiped, filled}
 use Rattle.rules.specs.Numbers.{done}
 use Rattle.rules.specs.Grounds.{firstOf}
 use Rattle.rules.proofs.Grounds.{some-eq, front-part, settled, ends}
+use Rattle.mapping.specs.Entries.{stored, given}
 use Rattle.language.specs.Tree.{size}
 use Rattle.language.specs.Reading.{Pattern, Reading}
 use Rattle.language.specs.Search.{accepts, isReading, nextReading}
@@ -18,8 +20,8 @@ use Rattle.language.proofs.Computed.{accepts-decides, reading-decides, first-ri
 use Rattle.sheet.specs.Refusals.{sheetGrounds, sheetRefusal}
 use Rattle.sheet.specs.Stands.{standsFor}
 use Rattle.sheet.proofs.Accepted.{accepted-meant, standing}
-use Rattle.reader.specs.Refusals.{nameGrounds, mappingGrounds, bareGrounds, acceptGrounds}
-use Rattle.reader.specs.Outcome.{End, refusedWith, answeredWith, given, AcceptWent, accepted, notIn, AcceptCall, FirstWent, found, absent, FirstCall, NextWent, foundNext, noMore, unread, NextCall, CheckWent, right, wrong, CheckCall}
+use Rattle.reader.specs.Refusals.{nameGrounds, mappingGrounds, acceptGrounds}
+use Rattle.reader.specs.Outcome.{End, refusedWith, answeredWith, AcceptWent, accepted, notIn, AcceptCall, FirstWent, found, absent, FirstCall, NextWent, foundNext, noMore, unread, NextCall, CheckWent, right, wrong, CheckCall}
 
 -- a sheet that is not refused stands for a pattern numbered from 1
 pub pattern-of : (sheet : List ℕ) → sheetRefusal sheet ≡ none → (P : Pattern) × (standsFor sheet ≡ some P) × Numbered 1 (1 + size (P .tree)) (P .tree)
@@ -77,7 +79,7 @@ module _ (sheet name mapping work : List ℕ) where
     where
       go : firstOf (acceptGrounds sheet name work) ≡ none → (s : End) × AcceptWent sheet name work s
       go e =
-          let (P, x, n) = pattern-of sheet (front-part (sheetGrounds sheet) (bareGrounds name work) e) in
+          let (P, x, n) = pattern-of sheet (front-part (sheetGrounds sheet) (nameGrounds name none work) e) in
           either (accepts P name) (accepts-decides P n name) (λ d. (_, accepted x d)) (λ d. (_, notIn x d))
 
   pub first-ends : (s : End) × FirstCall sheet name mapping work s
@@ -85,7 +87,7 @@ module _ (sheet name mapping work : List ℕ) where
     where
       go : firstOf (mappingGrounds sheet name mapping work) ≡ none → (s : End) × FirstWent sheet name mapping work s
       go e =
-          let (P, x, n) = pattern-of sheet (front-part (sheetGrounds sheet) (nameGrounds name mapping work) e) in
+          let (P, x, n) = pattern-of sheet (front-part (sheetGrounds sheet) (nameGrounds name (some (length mapping)) work) e) in
           either (accepts P name) (itself (accepts P name)) (λ h. (_, found x (first-right P n name h))) (λ h. (_, absent x (first-none P n name h)))
 
   pub next-ends : (s : End) × NextCall sheet name mapping work s
@@ -98,7 +100,7 @@ module _ (sheet name mapping work : List ℕ) where
 
       go : firstOf (mappingGrounds sheet name mapping work) ≡ none → (s : End) × NextWent sheet name mapping work s
       go e =
-          let (P, x, n) = pattern-of sheet (front-part (sheetGrounds sheet) (nameGrounds name mapping work) e) in
+          let (P, x, n) = pattern-of sheet (front-part (sheetGrounds sheet) (nameGrounds name (some (length mapping)) work) e) in
           let w = given name mapping in
           either (isReading P name w) (reading-decides P n name w) (λ g. at P x g (nextReading P name w) (next-right P n name w g)) (λ g. (_, unread x g))
 
@@ -107,5 +109,5 @@ module _ (sheet name mapping work : List ℕ) where
     where
       go : firstOf (mappingGrounds sheet name mapping work) ≡ none → (s : End) × CheckWent sheet name mapping work s
       go e =
-          let (P, x, n) = pattern-of sheet (front-part (sheetGrounds sheet) (nameGrounds name mapping work) e) in
+          let (P, x, n) = pattern-of sheet (front-part (sheetGrounds sheet) (nameGrounds name (some (length mapping)) work) e) in
           either (isReading P name (given name mapping)) (reading-decides P n name (given name mapping)) (λ g. (_, right x g)) (λ g. (_, wrong x g))

@@ -1,48 +1,63 @@
 -- The tests before a search, in document 01's order.
 use mathlib.Core.Path.{_≡_, refl, ap, sym, _∙_}
-use mathlib.Core.Bool.{false}
+use mathlib.Core.Bool.{Bool, true, false, not}
 use mathlib.Core.Option.{Option, none, some}
 use mathlib.Core.List.{List, [], _∷_, _++_}
 use Prim.Native.Nat.{ℕ, _*_, _<_, _≤_}
-use native.Mathlib.Omega.{arith}
-use lib.Dec.{ltb}
-use lib.ListN.{length, length-replicate}
-use borrow.Author.Tests.{ltb-false, lt-ltb, le-ltb}
-use Rattle.rules.specs.Limits.{nameLimit, entrySize, areaFor, wiped}
+use lib.Dec.{leb, ltb}
+use lib.ListN.{length}
+use borrow.Author.Tests.{leb-true, leb-false, ltb-false, lt-ltb, le-ltb}
+use Rattle.rules.specs.Limits.{nameLimit, areaFor}
 use Rattle.rules.specs.Numbers.{nameLong, mappingShort, workShort}
 use Rattle.rules.specs.Grounds.{because, firstOf}
-use Rattle.rules.proofs.Grounds.{passed, not-because, first-part, later-part, front-part}
+use Rattle.rules.proofs.Grounds.{Passed, passed, not-because, first-part, later-part, front-part}
+use Rattle.mapping.specs.Entries.{entrySize}
 use Rattle.sheet.specs.Answer.{faultNumber, refusalOf}
 use Rattle.sheet.specs.Refusals.{sheetGrounds, sheetRefusal}
 use Rattle.sheet.specs.declared.SheetFault.{SheetFault}
 use Rattle.sheet.specs.declared.SheetTest.{SheetTest}
 use Rattle.sheet.specs.declared.SheetTest.the-variants.{Accepted, Refused}
-use Rattle.reader.specs.Refusals.{nameGrounds, mappingGrounds, acceptGrounds}
+use Rattle.reader.specs.Refusals.{lentGrounds, nameGrounds, callGrounds}
 use Rattle.reader.specs.Answer.{numberOf}
-use Rattle.reader.specs.Made.{reasonOf}
+use Rattle.reader.specs.Made.{lentOf, lacks, reasonOf}
 use Rattle.reader.specs.declared.Answer.{Answer}
+use Rattle.reader.specs.declared.Lent.{Lent}
+use Rattle.reader.specs.declared.Lent.the-variants.{Nothing, Mapping}
 use Rattle.reader.specs.declared.Test.{Test}
-use Rattle.reader.specs.declared.Test.the-variants.{Passed}
 use Rattle.reader.specs.declared.Test.the-variants as tests
 
+-- 31 is there or not; the test of what is lent says the same
+lent-first : (lent : Lent) (n : ℕ) (gs : List (Option ℕ)) → firstOf (lentGrounds (lentOf lent) n ++ gs) ≡ firstOf (because (lacks lent n) mappingShort ∷ gs)
+lent-first Nothing n gs = refl
+lent-first (Mapping size) n gs = refl
+
+-- there is no room exactly if the entries do not fit
+pub no-room : {r : Bool} (n size : ℕ) → r ≡ leb n size → not r ≡ ltb size n
+no-room {r} n size e = go r (sym e)
+  where
+    go : (b : Bool) → leb n size ≡ b → not b ≡ ltb size n
+    go true h = sym (le-ltb size n (leb-true n size h))
+    go false h = sym (lt-ltb size n (leb-false n size h))
+
 -- 30, 31 and 32
-module _ (name mapping work : List ℕ) where
-  pub name-long : nameLimit < length name → some nameLong ≡ firstOf (nameGrounds name mapping work)
+module _ (name : List ℕ) (lent : Lent) (work : List ℕ) where
+  pub name-long : nameLimit < length name → some nameLong ≡ firstOf (nameGrounds name (lentOf lent) work)
   name-long h = rw (lt-ltb nameLimit (length name) h) refl
 
   module _ (short : length name ≤ nameLimit) where
-    pub mapping-short : length mapping < length name → some mappingShort ≡ firstOf (nameGrounds name mapping work)
-    mapping-short h = rw (le-ltb nameLimit (length name) short, lt-ltb (length mapping) (entrySize * length name) (omega arith)) refl
+    after-name : firstOf (nameGrounds name (lentOf lent) work)
+        ≡ firstOf (because (lacks lent (length name)) mappingShort ∷ because (ltb (length work) (areaFor name)) workShort ∷ [])
+    after-name = rw (le-ltb nameLimit (length name) short) (lent-first lent (length name) (because (ltb (length work) (areaFor name)) workShort ∷ []))
 
-    module _ (held : length name ≤ length mapping) where
-      enough : ltb (length mapping) (entrySize * length name) ≡ false
-      enough = le-ltb (length mapping) (entrySize * length name) (omega arith)
+    pub mapping-short : lacks lent (length name) ≡ true → some mappingShort ≡ firstOf (nameGrounds name (lentOf lent) work)
+    mapping-short h = sym (after-name ∙ rw h refl)
 
-      pub work-short : length work < areaFor name → some workShort ≡ firstOf (nameGrounds name mapping work)
-      work-short h = rw (le-ltb nameLimit (length name) short, enough, lt-ltb (length work) (areaFor name) h) refl
+    module _ (held : lacks lent (length name) ≡ false) where
+      pub work-short : ltb (length work) (areaFor name) ≡ true → some workShort ≡ firstOf (nameGrounds name (lentOf lent) work)
+      work-short h = sym (after-name ∙ rw (held, h) refl)
 
-      pub name-fits : areaFor name ≤ length work → none ≡ firstOf (nameGrounds name mapping work)
-      name-fits h = rw (le-ltb nameLimit (length name) short, enough, le-ltb (length work) (areaFor name) h) refl
+      pub name-fits : ltb (length work) (areaFor name) ≡ false → none ≡ firstOf (nameGrounds name (lentOf lent) work)
+      name-fits h = sym (after-name ∙ rw (held, h) refl)
 
 module _ {s : SheetTest} (sheet : List ℕ) (gs : List (Option ℕ)) where
   -- the sheet's own refusal comes first
@@ -57,48 +72,35 @@ module _ {s : SheetTest} (sheet : List ℕ) (gs : List (Option ℕ)) where
 pub refusal : {g : Option ℕ} {t : Test} {a : Answer} → reasonOf t ≡ g → t ≡ tests.Refused a → g ≡ some (numberOf a)
 refusal e k = sym e ∙ ap reasonOf k
 
+-- what is lent for a mapping, if anything is, has room for n entries
+abbrev Held : Option ℕ → ℕ → Type 0
+Held none n = Unit {0}
+Held (some size) n = entrySize * n ≤ size
+
 -- what holds of a call that passed
-pub record Fit (sheet name mapping work : List ℕ) : Type 0 where
-  pub passed : firstOf (mappingGrounds sheet name mapping work) ≡ none
+pub record Fit (sheet name : List ℕ) (lent : Option ℕ) (work : List ℕ) : Type 0 where
+  pub passed : firstOf (callGrounds sheet name lent work) ≡ none
   pub accepted : sheetRefusal sheet ≡ none
   pub short : length name ≤ nameLimit
-  pub held : length name ≤ length mapping
+  pub held : Held lent (length name)
   pub room : areaFor name ≤ length work
 
-module _ {sheet name mapping work : List ℕ} where
-  grounds-fit : firstOf (mappingGrounds sheet name mapping work) ≡ none → Fit sheet name mapping work
+-- a ground `a < b` that does not hold
+not-less : (a b k : ℕ) → because (ltb a b) k ≡ none → b ≤ a
+not-less a b k e = ltb-false a b (not-because (ltb a b) k e)
+
+name-passed : (name : List ℕ) (lent : Option ℕ) (work : List ℕ) → Passed (nameGrounds name lent work)
+    → (length name ≤ nameLimit) × Held lent (length name) × (areaFor name ≤ length work)
+name-passed name none work (p, (r, u)) = (not-less nameLimit (length name) nameLong p, tt, not-less (length work) (areaFor name) workShort r)
+name-passed name (some size) work (p, (q, (r, u))) =
+    (not-less nameLimit (length name) nameLong p, not-less size (entrySize * length name) mappingShort q, not-less (length work) (areaFor name) workShort r)
+
+module _ {sheet name : List ℕ} {lent : Option ℕ} {work : List ℕ} where
+  pub grounds-fit : firstOf (callGrounds sheet name lent work) ≡ none → Fit sheet name lent work
   grounds-fit e =
-      let a = front-part (sheetGrounds sheet) (nameGrounds name mapping work) e in
-      let (p, (q, (r, u))) = passed (nameGrounds name mapping work) (sym (later-part (sheetGrounds sheet) (nameGrounds name mapping work) a) ∙ e) in
-      let m = ltb-false (length mapping) (entrySize * length name) (not-because (ltb (length mapping) (entrySize * length name)) mappingShort q) in
-      record {
-        passed = e;
-        accepted = a;
-        short = ltb-false nameLimit (length name) (not-because (ltb nameLimit (length name)) nameLong p);
-        held = omega arith;
-        room = ltb-false (length work) (areaFor name) (not-because (ltb (length work) (areaFor name)) workShort r);
-      }
+      let a = front-part (sheetGrounds sheet) (nameGrounds name lent work) e in
+      let (short, held, room) = name-passed name lent work (passed (nameGrounds name lent work) (sym (later-part (sheetGrounds sheet) (nameGrounds name lent work) a) ∙ e)) in
+      record { passed = e; accepted = a; short = short; held = held; room = room }
 
-  pub fit : {t : Test} → reasonOf t ≡ firstOf (mappingGrounds sheet name mapping work) → t ≡ Passed → Fit sheet name mapping work
+  pub fit : {t : Test} → reasonOf t ≡ firstOf (callGrounds sheet name lent work) → t ≡ tests.Passed → Fit sheet name lent work
   fit e k = grounds-fit (sym e ∙ ap reasonOf k)
-
--- the tests see only how long the mapping is
-pub wiped-grounds : (sheet name mapping work : List ℕ) → firstOf (mappingGrounds sheet name (wiped mapping) work) ≡ firstOf (mappingGrounds sheet name mapping work)
-wiped-grounds sheet name mapping work = rw (length-replicate {A = ℕ} (length mapping) 0) refl
-
--- so a call that wiped its mapping and passed would have passed before
-pub wiped-fit : {sheet name mapping work wipe : List ℕ} → wipe ≡ wiped mapping → Fit sheet name wipe work → Fit sheet name mapping work
-wiped-fit {sheet} {name} {mapping} {work} w f = grounds-fit (sym (wiped-grounds sheet name mapping work) ∙ rw w at (f .passed))
-
--- a ground that does not hold may be left out
-left-out : (gs : List (Option ℕ)) (g : Option ℕ) (hs : List (Option ℕ)) → firstOf (gs ++ g ∷ none ∷ hs) ≡ firstOf (gs ++ g ∷ hs)
-left-out [] none hs = refl
-left-out [] (some k) hs = refl
-left-out (none ∷ gs) g hs = left-out gs g hs
-left-out (some k ∷ gs) g hs = refl
-
--- a mapping as long as the name is long enough
-pub accept-grounds : (sheet name work : List ℕ) → firstOf (mappingGrounds sheet name name work) ≡ firstOf (acceptGrounds sheet name work)
-accept-grounds sheet name work =
-    rw (le-ltb (length name) (entrySize * length name) (omega arith))
-    (left-out (sheetGrounds sheet) (because (ltb nameLimit (length name)) nameLong) (because (ltb (length work) (areaFor name)) workShort ∷ []))

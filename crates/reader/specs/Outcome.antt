@@ -3,10 +3,11 @@ use mathlib.Core.Path.{_≡_}
 use mathlib.Core.Option.{some}
 use mathlib.Core.List.{List, [], _++_}
 use Prim.Native.Nat.{ℕ}
-use lib.ListN.{length, drop, replicate}
-use Rattle.rules.specs.Limits.{areaFor, stored, entries, wiped, filled}
+use lib.ListN.{drop, replicate}
+use Rattle.rules.specs.Limits.{areaFor, wiped, filled}
 use Rattle.rules.specs.Numbers.{done, no, noReading}
 use Rattle.rules.specs.Grounds.{firstOf, Call}
+use Rattle.mapping.specs.Entries.{stored, given}
 use Rattle.language.specs.Reading.{Pattern, Language, Reading}
 use Rattle.language.specs.Order.{FirstReading, NoReading, NextReading, NoMore}
 use Rattle.sheet.specs.Stands.{standsFor}
@@ -28,10 +29,6 @@ cleared name work = replicate (areaFor name) 0 ++ drop (areaFor name) work
 
 abbrev pub answeredWith : List ℕ → List ℕ → ℕ → List ℕ → End
 answeredWith name work k mapping = record { number = k; second = 0; mapping = mapping; work = cleared name work }
-
--- the sequence that next and check are given
-abbrev pub given : List ℕ → List ℕ → List ℕ
-given name mapping = entries (length name) mapping
 
 -- ACCEPT has no mapping; its end is given with an empty one
 pub data AcceptWent (sheet name work : List ℕ) : End → Type 0 where

@@ -4,24 +4,26 @@ ghost use mathlib.Core.Bool.{true, false};
 ghost use mathlib.Core.Option.{none, some};
 ghost use mathlib.Core.List.{[]};
 ghost use Prim.Native.Nat.{_+_, _*_, _<_, _≤_};
+ghost use lib.Dec.{ltb};
 ghost use lib.ListN.{length};
-ghost use Rattle.rules.specs.Limits.{nameLimit, areaFor, wiped};
+ghost use Rattle.rules.specs.Limits.{nameLimit, rowSize, areaFor, wiped};
 ghost use Rattle.rules.specs.Grounds.{firstOf};
+ghost use Rattle.mapping.specs.Entries.{entrySize, given};
 ghost use Rattle.language.specs.Reading.{Pattern};
 ghost use Rattle.language.specs.Search.{accepts, isReading};
 ghost use Rattle.sheet.specs.Answer.{faultNumber};
 ghost use Rattle.sheet.specs.Refusals.{sheetRefusal};
 ghost use Rattle.sheet.specs.Stands.{standsFor};
 ghost use Rattle.rows.specs.Rows.{rowAt};
-ghost use Rattle.reader.specs.Refusals.{nameGrounds, mappingGrounds};
-ghost use Rattle.reader.specs.Outcome.{cleared, given, AcceptCall, FirstCall, NextCall, CheckCall};
+ghost use Rattle.reader.specs.Refusals.{nameGrounds, callGrounds};
+ghost use Rattle.reader.specs.Outcome.{cleared, AcceptCall, FirstCall, NextCall, CheckCall};
 ghost use Rattle.reader.specs.Answer.{numberOf, endOf};
-ghost use Rattle.reader.specs.Made.{reasonOf, FirstMade, NextMade, answerOf, keptBy};
+ghost use Rattle.reader.specs.Made.{lentOf, lacks, reasonOf, FirstMade, NextMade, answerOf, keptBy, leftBy};
 use automaton::FOLLOW_WORDS;
 use automaton::LETTER_WORDS;
 use bits::SET_WORDS;
-use rows::Place;
-use rows::Position;
+use mapping::Place;
+use mapping::Position;
 use rules::NAME_LIMIT;
 use rules::ROW_SIZE;
 use sheet::SheetFault;
@@ -38,16 +40,22 @@ pub enum Answer {
     NoReading,
 }
 
+// What is lent for a mapping: nothing, or so many bytes.
+enum Lent {
+    Nothing,
+    Mapping(usize),
+}
+
 // What is found of a call before anything is searched.
 enum Test {
     Passed,
     Refused(Answer),
 }
 
-// What a search for the next reading comes to.
+// What a search for a reading comes to: it is in the mapping; there is none; what was given is no reading.
 enum Step {
     Found,
-    NoMore,
+    Absent,
     Unread,
 }
 
@@ -56,14 +64,14 @@ fn sheet_number(f: SheetFault) -> u64
     ensures { λ r. ⌜ r ≡ faultNumber f ⌝ }
 {
     match f {
-        SheetFault::SheetForm => 20,
-        SheetFault::SheetLength => 21,
-        SheetFault::SheetLeaves => 22,
-        SheetFault::SheetByte => 23,
-        SheetFault::WaitingFew => 24,
-        SheetFault::WaitingEnd => 25,
-        SheetFault::WaitingMany => 26,
-        SheetFault::LeavesUnequal => 27,
+        SheetFault::SheetForm => rules::SHEET_FORM,
+        SheetFault::SheetLength => rules::SHEET_LENGTH,
+        SheetFault::SheetLeaves => rules::SHEET_LEAVES,
+        SheetFault::SheetByte => rules::SHEET_BYTE,
+        SheetFault::WaitingFew => rules::WAITING_FEW,
+        SheetFault::WaitingEnd => rules::WAITING_END,
+        SheetFault::WaitingMany => rules::WAITING_MANY,
+        SheetFault::LeavesUnequal => rules::LEAVES_UNEQUAL,
     }
 }
 
@@ -72,50 +80,62 @@ pub fn number(a: Answer) -> u64
     ensures { λ r. ⌜ r ≡ numberOf a ⌝ }
 {
     match a {
-        Answer::Done => 0,
-        Answer::No => 1,
+        Answer::Done => rules::DONE,
+        Answer::No => rules::NO,
         Answer::Sheet(f) => sheet_number(f),
-        Answer::NameLong => 30,
-        Answer::MappingShort => 31,
-        Answer::WorkShort => 32,
-        Answer::NoReading => 33,
+        Answer::NameLong => rules::NAME_LONG,
+        Answer::MappingShort => rules::MAPPING_SHORT,
+        Answer::WorkShort => rules::WORK_SHORT,
+        Answer::NoReading => rules::NO_READING,
     }
 }
 
-// 30, 31 and 32.
-fn name_test(name: &[u8], mapping: &[u8], work: &[u8]) -> Test
-    ensures { λ r. ⌜ reasonOf r ≡ firstOf (nameGrounds (now (name .entry)) (now (mapping .entry)) (now (work .entry))) ⌝ }
+// Whether a mapping is lent that has no room for n entries.
+fn lacks_entries(lent: Lent, n: usize) -> bool
+    requires { ⌜ n ≤ nameLimit ⌝ }
+    ensures { λ r. ⌜ r ≡ lacks lent n ⌝ }
+{
+    match lent {
+        Lent::Nothing => false,
+        Lent::Mapping(size) => !mapping::holds(size, n),
+    }
+}
+
+// Whether the work area has no room for the rows of a name of n bytes.
+fn lacks_rows(work: &[u8], n: usize) -> bool
+    requires { ⌜ n ≤ nameLimit ⌝ }
+    ensures { λ r. ⌜ r ≡ ltb (length (now (work .entry))) (rowSize * (n + 1)) ⌝ }
+{
+    work.len() < ROW_SIZE * (n + 1)
+}
+
+// 30, 31 where a mapping is lent, and 32.
+fn name_test(name: &[u8], lent: Lent, work: &[u8]) -> Test
+    ensures { λ r. ⌜ reasonOf r ≡ firstOf (nameGrounds (now (name .entry)) (lentOf lent) (now (work .entry))) ⌝ }
 {
     if NAME_LIMIT < name.len() {
         return Test::Refused(Answer::NameLong);
     }
-    let area = ROW_SIZE * (name.len() + 1);
-    if mapping.len() < name.len() {
+    let unmapped = lacks_entries(lent, name.len());
+    let cramped = lacks_rows(work, name.len());
+    if unmapped {
         return Test::Refused(Answer::MappingShort);
     }
-    if work.len() < area {
+    if cramped {
         return Test::Refused(Answer::WorkShort);
     }
     Test::Passed
 }
 
-// 20 to 27, then 30, 31 and 32.
-fn call_test(sheet: &[u8], name: &[u8], mapping: &[u8], work: &[u8]) -> Test
-    ensures { λ r. ⌜ reasonOf r ≡ firstOf (mappingGrounds (now (sheet .entry)) (now (name .entry)) (now (mapping .entry)) (now (work .entry))) ⌝ }
+// 20 to 27, then 30, 31 where a mapping is lent, and 32.
+fn call_test(sheet: &[u8], name: &[u8], lent: Lent, work: &[u8]) -> Test
+    ensures { λ r. ⌜ reasonOf r ≡ firstOf (callGrounds (now (sheet .entry)) (now (name .entry)) (lentOf lent) (now (work .entry))) ⌝ }
 {
     let s = sheet::test(sheet);
     if let SheetTest::Refused(f) = s {
         return Test::Refused(Answer::Sheet(f));
     }
-    name_test(name, mapping, work)
-}
-
-// Makes the whole buffer zero.
-fn wipe_all(buffer: &mut [u8])
-    ensures { λ _. ⌜ now (buffer .exit) ≡ wiped (now (buffer .entry)) ⌝ }
-{
-    let size = buffer.len();
-    rows::wipe(buffer, size);
+    name_test(name, lent, work)
 }
 
 // Makes the rows of all places zero.
@@ -123,7 +143,7 @@ fn wipe_rows(work: &mut [u8], name: &[u8])
     requires { ⌜ (length (now name) ≤ nameLimit) × (areaFor (now name) ≤ length (now work)) ⌝ }
     ensures { λ _. ⌜ now (work .exit) ≡ cleared (now (name .entry)) (now (work .entry)) ⌝ }
 {
-    rows::wipe(work, ROW_SIZE * (name.len() + 1));
+    buffers::wipe(work, ROW_SIZE * (name.len() + 1));
 }
 
 // Whether the name is in the language of an accepted sheet.
@@ -141,9 +161,9 @@ fn in_language(sheet: &[u8], name: &[u8], work: &mut [u8]) -> bool
 }
 
 // Writes the first reading of a name, if it has one.
-fn first_reading(sheet: &[u8], name: &[u8], mapping: &mut [u8], work: &mut [u8]) -> bool
-    requires { ⌜ (sheetRefusal (now sheet) ≡ none) × (length (now name) ≤ nameLimit) × (length (now name) ≤ length (now mapping)) × (areaFor (now name) ≤ length (now work)) ⌝ }
-    ensures { λ r. ⌜ ((P : Pattern) → standsFor (now (sheet .entry)) ≡ some P → FirstMade P (now (name .entry)) (now (mapping .entry)) (now (mapping .exit)) r) ⌝ }
+fn first_reading(sheet: &[u8], name: &[u8], mapping: &mut [u8], work: &mut [u8]) -> Step
+    requires { ⌜ (sheetRefusal (now sheet) ≡ none) × (length (now name) ≤ nameLimit) × (entrySize * length (now name) ≤ length (now mapping)) × (areaFor (now name) ≤ length (now work)) ⌝ }
+    ensures { λ r. ⌜ ((P : Pattern) → standsFor (now (sheet .entry)) ≡ some P → FirstMade P (now (name .entry)) (now (mapping .exit)) r) ⌝ }
     ensures { λ _. ⌜ rowAt (now (work .exit)) (length (now (name .entry))) ≡ rowAt (now (work .entry)) (length (now (name .entry))) ⌝ }
 {
     let mut follow = [0u64; FOLLOW_WORDS];
@@ -153,14 +173,14 @@ fn first_reading(sheet: &[u8], name: &[u8], mapping: &mut [u8], work: &mut [u8])
     rows::fill(work, name, &follow, &stops, &letters);
     if rows::begins(work, name, &follow, &stops) {
         choices::choose(mapping, name, work, &follow, Place(0), Position(0));
-        return true;
+        return Step::Found;
     }
-    false
+    Step::Absent
 }
 
 // Makes of the given reading the next one, if it is a reading and there is one.
 fn next_reading(sheet: &[u8], name: &[u8], mapping: &mut [u8], work: &mut [u8]) -> Step
-    requires { ⌜ (sheetRefusal (now sheet) ≡ none) × (length (now name) ≤ nameLimit) × (length (now name) ≤ length (now mapping)) × (areaFor (now name) ≤ length (now work)) ⌝ }
+    requires { ⌜ (sheetRefusal (now sheet) ≡ none) × (length (now name) ≤ nameLimit) × (entrySize * length (now name) ≤ length (now mapping)) × (areaFor (now name) ≤ length (now work)) ⌝ }
     ensures { λ r. ⌜ ((P : Pattern) → standsFor (now (sheet .entry)) ≡ some P → NextMade P (now (name .entry)) (now (mapping .entry)) (now (mapping .exit)) r) ⌝ }
     ensures { λ _. ⌜ rowAt (now (work .exit)) (length (now (name .entry))) ≡ rowAt (now (work .entry)) (length (now (name .entry))) ⌝ }
 {
@@ -172,10 +192,8 @@ fn next_reading(sheet: &[u8], name: &[u8], mapping: &mut [u8], work: &mut [u8]) 
         return Step::Unread;
     }
     rows::fill(work, name, &follow, &stops, &letters);
-    if choices::advance(mapping, name, work, &follow) {
-        return Step::Found;
-    }
-    Step::NoMore
+    let moved = choices::advance(mapping, name, work, &follow);
+    if moved { Step::Found } else { Step::Absent }
 }
 
 // How many of n entries stay in the mapping.
@@ -184,7 +202,7 @@ fn kept_by(s: Step, n: usize) -> usize
 {
     match s {
         Step::Found => n,
-        Step::NoMore => 0,
+        Step::Absent => 0,
         Step::Unread => 0,
     }
 }
@@ -194,22 +212,32 @@ fn answer_of(s: Step) -> Answer
 {
     match s {
         Step::Found => Answer::Done,
-        Step::NoMore => Answer::No,
+        Step::Absent => Answer::No,
         Step::Unread => Answer::NoReading,
     }
+}
+
+// Leaves in the mapping what a search found for n places and zeros, and answers.
+fn settle(mapping: &mut [u8], n: usize, s: Step) -> Answer
+    requires { ⌜ entrySize * n ≤ length (now mapping) ⌝ }
+    ensures { λ r. ⌜ (r ≡ answerOf s) × (now (mapping .exit) ≡ leftBy s n (now (mapping .entry))) ⌝ }
+{
+    let kept = kept_by(s, n);
+    mapping::wipe_from(mapping, kept);
+    answer_of(s)
 }
 
 // A refusal that wipes the mapping.
 fn refuse(mapping: &mut [u8], a: Answer) -> Answer
     ensures { λ r. ⌜ (r ≡ a) × (now (mapping .exit) ≡ wiped (now (mapping .entry))) ⌝ }
 {
-    wipe_all(mapping);
+    buffers::wipe_all(mapping);
     a
 }
 
 // Whether the given sequence is a reading of the name.
 fn given_reading(sheet: &[u8], name: &[u8], mapping: &[u8]) -> bool
-    requires { ⌜ (sheetRefusal (now sheet) ≡ none) × (length (now name) ≤ length (now mapping)) ⌝ }
+    requires { ⌜ (sheetRefusal (now sheet) ≡ none) × (entrySize * length (now name) ≤ length (now mapping)) ⌝ }
     ensures { λ r. ⌜ ((P : Pattern) → standsFor (now (sheet .entry)) ≡ some P → r ≡ isReading P (now (name .entry)) (given (now (name .entry)) (now (mapping .entry)))) ⌝ }
 {
     let mut follow = [0u64; FOLLOW_WORDS];
@@ -219,11 +247,11 @@ fn given_reading(sheet: &[u8], name: &[u8], mapping: &[u8]) -> bool
     choices::is_reading(name, mapping, &follow, &stops, &letters)
 }
 
-// Whether the name is in the language. There is no mapping, so no 31: the name stands in for it, and is no shorter than itself.
+// Whether the name is in the language. There is no mapping, so no 31.
 pub fn accept(sheet: &[u8], name: &[u8], work: &mut [u8]) -> Answer
     ensures { λ r. ⌜ AcceptCall (now (sheet .entry)) (now (name .entry)) (now (work .entry)) (endOf r [] (now (work .exit))) ⌝ }
 {
-    let t = call_test(sheet, name, name, work);
+    let t = call_test(sheet, name, Lent::Nothing, work);
     if let Test::Refused(a) = t {
         return a;
     }
@@ -236,36 +264,33 @@ pub fn accept(sheet: &[u8], name: &[u8], work: &mut [u8]) -> Answer
 pub fn first(sheet: &[u8], name: &[u8], mapping: &mut [u8], work: &mut [u8]) -> Answer
     ensures { λ r. ⌜ FirstCall (now (sheet .entry)) (now (name .entry)) (now (mapping .entry)) (now (work .entry)) (endOf r (now (mapping .exit)) (now (work .exit))) ⌝ }
 {
-    wipe_all(mapping);
-    let t = call_test(sheet, name, mapping, work);
+    let t = call_test(sheet, name, Lent::Mapping(mapping.len()), work);
     if let Test::Refused(a) = t {
-        return a;
+        return refuse(mapping, a);
     }
-    let found = first_reading(sheet, name, mapping, work);
+    let s = first_reading(sheet, name, mapping, work);
     wipe_rows(work, name);
-    if found { Answer::Done } else { Answer::No }
+    settle(mapping, name.len(), s)
 }
 
 // The reading after the given one.
 pub fn next(sheet: &[u8], name: &[u8], mapping: &mut [u8], work: &mut [u8]) -> Answer
     ensures { λ r. ⌜ NextCall (now (sheet .entry)) (now (name .entry)) (now (mapping .entry)) (now (work .entry)) (endOf r (now (mapping .exit)) (now (work .exit))) ⌝ }
 {
-    let t = call_test(sheet, name, mapping, work);
-    if let Test::Refused(a) = t {
-        return refuse(mapping, a);
+    let t = call_test(sheet, name, Lent::Mapping(mapping.len()), work);
+    if let Test::Refused(why) = t {
+        return refuse(mapping, why);
     }
     let s = next_reading(sheet, name, mapping, work);
     wipe_rows(work, name);
-    let kept = kept_by(s, name.len());
-    wipe_all(&mut mapping[kept..]);
-    answer_of(s)
+    settle(mapping, name.len(), s)
 }
 
 // Whether the given sequence is a reading of the name.
 pub fn check(sheet: &[u8], name: &[u8], mapping: &[u8], work: &mut [u8]) -> Answer
     ensures { λ r. ⌜ CheckCall (now (sheet .entry)) (now (name .entry)) (now (mapping .entry)) (now (work .entry)) (endOf r (now (mapping .entry)) (now (work .exit))) ⌝ }
 {
-    let t = call_test(sheet, name, mapping, work);
+    let t = call_test(sheet, name, Lent::Mapping(mapping.len()), work);
     if let Test::Refused(a) = t {
         return a;
     }

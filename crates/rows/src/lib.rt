@@ -1,8 +1,8 @@
-// Rows of live positions in the work area: filled from the right, looked at, and wiped.
+// Rows of live positions in the work area: filled from the right, and looked at.
 ghost use mathlib.Core.Path.{_≡_};
-ghost use mathlib.Core.List.{List, _∷_, _++_};
+ghost use mathlib.Core.List.{List, _∷_};
 ghost use Prim.Native.Nat.{ℕ, _+_, _*_, _<_, _≤_};
-ghost use lib.ListN.{length, drop, replicate};
+ghost use lib.ListN.{length, drop};
 ghost use Rattle.rules.specs.Limits.{nameLimit, rowSize, areaFor};
 ghost use Rattle.language.specs.Reading.{Pattern};
 ghost use Rattle.language.specs.Search.{accepts};
@@ -11,25 +11,8 @@ ghost use Rattle.automaton.specs.Tables.{followWords, letterWords};
 ghost use Rattle.automaton.specs.Tables.{Follows, Stops, Letters};
 ghost use Rattle.rows.specs.Rows.{Live, LastLive, rowAt, RowsOf};
 use bits::SET_WORDS;
+use mapping::Place;
 use rules::ROW_SIZE;
-
-// A place of the name, from 0.
-pub struct Place(pub usize);
-
-// A position of the expression, from 1; 0 is the start.
-pub struct Position(pub usize);
-
-// Makes the first `size` bytes zero, and leaves the rest.
-pub fn wipe(area: &mut [u8], size: usize)
-    requires { ⌜ size ≤ length (now area) ⌝ }
-    ensures { λ _. ⌜ now (area .exit) ≡ replicate size 0 ++ drop size (now (area .entry)) ⌝ }
-{
-    let mut i = 0;
-    while i < size {
-        area[i] = 0;
-        i += 1;
-    }
-}
 
 // Fills the row in front from the row after it: the positions that take the byte, and after which one of that row may come.
 fn fill_row(row: &mut [u8], byte: u8, follow: &[u64], letters: &[u64])

@@ -37,10 +37,12 @@ slice-aggregate-least-from c = search needs
 least-from-requires : tie.Need-least-from-requires
 least-from-requires c κs = search needs
 
+-- The least member of a set that has the same members as the place's row and the followers.
 returns : tie.Need-returns
 returns c =
-    let g = c .before .before .before .before .before .before .before .before .before .before .before .before .args in
-    let a = c .before .before .before .before .before .before .load-row in
+    let loaded = c .before .before .before .before .before .before in
+    let g = loaded .before .before .before .before .before .before .args in
+    let a = loaded .load-row in
     let b = c .before .before .before .intersect in
     let least = c .least-from .ensures in (
       least-same (λ x. b .ensures 0 x ∙ rw (a .ensures x, rest-of (g .work .now) (rowSize * g .i .0)) refl) least,

@@ -5,7 +5,8 @@ use Rattle.automaton.specs.Tables.{Follows}
 use Rattle.rows.specs.Rows.{RowsOf, readable}
 use Rattle.bits.specs.Sets.{setBits}
 use Rattle.language.specs.Reading.{Pattern}
-use lib.Seq.{drop-set-lt}
+use Rattle.mapping.specs.Entries.{beyond, given}
+use Rattle.mapping.proofs.Entries.{entries-length}
 use lib.ListN.{length, take, drop}
 use lib.Dec.{T}
 use Prim.Native.Nat.{_-_, _<_, _≤_}
@@ -15,15 +16,16 @@ use mathlib.Core.Path.{_≡_, refl, _∙_}
 use Rattle.choices.proofs.choose.Statement.{statement}
 use Rattle.choices.proofs.choose.Tie as tie
 
+-- The entries before place i are chosen; with the choices still to come they are the whole.
 abbrev Inv-loop : tie.InvT-loop
 Inv-loop mapping₀ name work follow p₀ i₀ mapping p i =
     (i₀ ≤ i)
     × (i ≤ length name)
     × (p .0 < setBits)
     × (length mapping ≡ length mapping₀)
-    × (drop (length name) mapping ≡ drop (length name) mapping₀)
+    × (beyond (length name) mapping ≡ beyond (length name) mapping₀)
     × ((P : Pattern) → Follows P follow → RowsOf P name work → T (readable P (drop i₀ name) (p₀ .0))
-    → Along P name (take i₀ mapping₀ ++ chosen P (drop i₀ name) (p₀ .0)) mapping i (p .0))
+    → Along P name (take i₀ (given name mapping₀) ++ chosen P (drop i₀ name) (p₀ .0)) (given name mapping) i (p .0))
 
 abbrev μ-loop : tie.MeasureT-loop
 μ-loop mapping₀ name work follow p₀ i₀ mapping p i = length name - i
@@ -34,8 +36,8 @@ loop-holds c = (omega arith, omega arith, omega arith, refl, refl, λ P f r h. r
 choice-requires : tie.Need-choice-requires Inv-loop μ-loop
 choice-requires c κs = search needs
 
-put-entry-requires : tie.Need-put-entry-requires Inv-loop μ-loop
-put-entry-requires c κs = search needs
+put-requires : tie.Need-put-requires Inv-loop μ-loop
+put-requires c κs = search needs
 
 add-i : tie.Need-add-i Inv-loop μ-loop
 add-i c = search needs
@@ -45,16 +47,21 @@ loop-less c = search needs
 
 loop-again : tie.Need-loop-again Inv-loop μ-loop
 loop-again c =
-    let g = c .before .before .before .before .before .before .before .before .before .before .before .args in
-    let loop = c .before .before .before .before .before .before .loop in
+    let turn = c .before .before .before .before .before in
+    let loop = turn .before .loop in
+    let g = turn .before .before .before .before .before .before .args in
+    let n = length (g .name .now) in
+    let inside = turn .loop-test .taken in
     let choice = c .before .before .before .before .choice .ensures in
-    let put = c .before .before .put-entry .ensures in (
+    let put = c .before .before .put .ensures in (
       omega arith,
       omega arith,
       choice .1,
       omega arith,
-      rw put (drop-set-lt (length (g .name .now)) (loop .mapping) (loop .i) _ (omega arith) ∙ loop .inv .4),
-      λ P f r h. rw put (along-turn (loop .inv .5 P f r h) (g .follow .now) (g .work .now) f (r (loop .i) (omega arith)) (omega arith) (omega arith) (choice .0)),
+      put .rest n inside ∙ loop .inv .4,
+      λ P f r h.
+          rw (put .there n inside)
+          (along-turn (entries-length n (loop .mapping) (omega arith)) (loop .inv .5 P f r h) (g .follow .now) (g .work .now) f (r (loop .i) inside) inside (choice .0)),
     )
 
 same-length : tie.Need-same-length Inv-loop μ-loop
@@ -63,7 +70,7 @@ same-length c = search needs
 returns : tie.Need-returns Inv-loop μ-loop
 returns c =
     let loop = c .before .loop in
-    (λ P f r h. along-end (loop .inv .5 P f r h) (omega arith), loop .inv .4)
+    (λ P f r h. along-end (entries-length _ (loop .mapping) (omega arith)) (loop .inv .5 P f r h) (omega arith), loop .inv .4)
 
 pub choose-spec : {M : Type 1} → statement M
 choose-spec =
@@ -73,7 +80,7 @@ choose-spec =
     μ-loop
     loop-holds
     choice-requires
-    put-entry-requires
+    put-requires
     add-i
     loop-less
     loop-again

@@ -1,13 +1,13 @@
 use borrow.Author.Needs.{needs}
-use Rattle.choices.proofs.Onward.{Tried, tried-none, tried-more, tried-found, tried-all, Still, still-start, still-turn, moves}
+use Rattle.choices.proofs.Onward.{Tried, tried-none, tried-more, tried-found, tried-all, Still, still-start, still-turn, moves, before-small}
 use Rattle.choices.proofs.Picks.{least-above}
-use Rattle.choices.proofs.Entries.{before-below}
+use Rattle.mapping.specs.Entries.{entryValues, given}
+use Rattle.mapping.proofs.Entries.{entries-length}
 use Rattle.choices.specs.declared.Move.the-variants.{Nowhere}
 use Rattle.automaton.specs.Tables.{Follows}
 use Rattle.rows.specs.Rows.{RowsOf, rowAt}
 use Rattle.bits.specs.Sets.{has, rowHas}
 use Rattle.language.specs.Reading.{Pattern}
-use Rattle.rules.specs.Limits.{byteValues}
 use lib.ListN.{length, getD}
 use Prim.Native.Nat.{_-_, _<_, _≤_}
 use native.Mathlib.Omega.{arith}
@@ -15,16 +15,17 @@ use mathlib.Core.Path.{_≡_, refl, sym, _∙_}
 use Rattle.choices.proofs.last_move.Statement.{statement}
 use Rattle.choices.proofs.last_move.Tie as tie
 
+-- Inside, later positions of one place, none of which does; outside, places from the right, none of which can move.
 abbrev Inv-loop : tie.InvT-loop
 Inv-loop name mapping work follow found₀ left i before q₀ found q =
-    (q .0 < byteValues) × (found ≡ Nowhere) × Tried (rowHas (rowAt work i)) (has follow (before .0)) (getD mapping i 0) (q .0)
+    (q .0 < entryValues) × (found ≡ Nowhere) × Tried (rowHas (rowAt work i)) (has follow (before .0)) (getD (given name mapping) i 0) (q .0)
 
 abbrev μ-loop : tie.MeasureT-loop
-μ-loop name mapping work follow found₀ left i before q₀ found q = byteValues - q .0
+μ-loop name mapping work follow found₀ left i before q₀ found q = entryValues - q .0
 
 abbrev Inv-search : tie.InvT-search
 Inv-search name mapping work follow found₀ left₀ found left =
-    (left ≤ length name) × (found ≡ Nowhere) × ((P : Pattern) → Follows P follow → RowsOf P name work → Still P name mapping left)
+    (left ≤ length name) × (found ≡ Nowhere) × ((P : Pattern) → Follows P follow → RowsOf P name work → Still P name (given name mapping) left)
 
 abbrev μ-search : tie.MeasureT-search
 μ-search name mapping work follow found₀ left₀ found left = left
@@ -44,17 +45,22 @@ entry-requires c κs = search needs
 loop-holds : tie.Need-loop-holds Inv-loop μ-loop Inv-search μ-search
 loop-holds c =
     let entry = c .entry .ensures in
-    (entry .1, c .before .before .before .search .inv .1, rw (entry .0) tried-none)
+    let turn = c .before .before .before in
+    let name = turn .before .before .before .before .before .args .name .now in
+    let inside : turn .search .left - 1 < length name = omega arith in
+    (entry .1, turn .search .inv .1, rw (entry .0 (length name) inside) tried-none)
 
 later-requires : tie.Need-later-requires Inv-loop μ-loop Inv-search μ-search
 later-requires c κs = search needs
 
 follows-requires : tie.Need-follows-requires Inv-loop μ-loop Inv-search μ-search
 follows-requires c κs =
-    let start = c .before .before .before .before .before .before .before .before .before .before .before .before in
-    let i = c .before .before .before .before .before .before .before .search .left - 1 in
-    let small = before-below (start .args .mapping .now) i (length (start .args .name .now)) (omega arith) (start .pre .1) in
-    (omega arith, omega (arith, c .before .before .before .before .before .entry-before .ensures, small), omega arith)
+    let turn = c .before .before .before .before .before .before .before in
+    let start = turn .before .before .before .before .before in
+    let i = turn .search .left - 1 in
+    let n = length (start .args .name .now) in
+    let small = before-small (given (start .args .name .now) (start .args .mapping .now)) i {n = n} (omega arith) (start .pre .1) in
+    (omega arith, omega (arith, c .before .before .before .before .before .entry-before .ensures n (omega arith), small), omega arith)
 
 loop-less : tie.Need-loop-less Inv-loop μ-loop Inv-search μ-search
 loop-less c = let h = least-above (c .before .before .before .before .later .ensures .0) (c .before .before .if1 .left) in omega arith
@@ -70,15 +76,17 @@ search-less c = search needs
 
 search-again : tie.Need-search-again Inv-loop μ-loop Inv-search μ-search
 search-again c =
-    let start = c .before .before .before .before .before .before .before .before .before .before .before .before in
+    let turn = c .before .before .before .before .before .before .before in
+    let start = turn .before .before .before .before .before in
     let g = start .args in
-    let search = c .before .before .before .before .before .before .before .search in
-    let loop = c .before .before .before .loop in (
+    let search = turn .search in
+    let loop = c .before .before .before .loop in
+    let before = c .before .before .before .before .before .entry-before .ensures (length (g .name .now)) (omega arith) in (
       omega arith,
       loop .inv .1,
       λ P f r.
-          still-turn (search .inv .2 P f r) (search .inv .0) (start .pre .0 .1) (g .follow .now) (g .work .now) f r (search .left - 1) (omega arith)
-          (c .before .before .before .before .before .entry-before .ensures) (tried-all (loop .inv .2) (c .before .before .later .ensures .0) (c .if1 .taken)),
+          still-turn (search .inv .2 P f r) (search .inv .0) (entries-length _ _ (start .pre .0 .1)) (g .follow .now) (g .work .now) f r (search .left - 1) (omega arith)
+          before (tried-all (loop .inv .2) (c .before .before .later .ensures .0) (c .if1 .taken)),
     )
 
 returns : tie.Need-returns Inv-loop μ-loop Inv-search μ-search
@@ -89,16 +97,18 @@ returns c =
 
 returns-2 : tie.Need-returns-2 Inv-loop μ-loop Inv-search μ-search
 returns-2 c =
-    let start = c .before .before .before .before .before .before .before .before .before .before .before .before .before .before in
+    let turn = c .before .before .before .before .before .before .before .before .before in
+    let start = turn .before .before .before .before .before in
     let g = start .args in
-    let search = c .before .before .before .before .before .before .before .before .before .search in
+    let search = turn .search in
     let loop = c .before .before .before .before .before .loop in
     let later = c .before .before .before .before .later .ensures in
-    let there = c .before .before .if1 .left in (
+    let before = c .before .before .before .before .before .before .before .entry-before .ensures (length (g .name .now)) (omega arith) in
+    let some = c .before .before .if1 .left in (
       (omega arith, later .1),
       λ P f r.
-          moves (search .inv .2 P f r) (search .inv .0) (start .pre .0 .1) (g .follow .now) (g .work .now) f r (search .left - 1) (omega arith)
-          (c .before .before .before .before .before .before .before .entry-before .ensures) there (tried-found (loop .inv .2) (later .0) there (sym (c .before .follows .ensures) ∙ c .if2 .taken)),
+          moves (search .inv .2 P f r) (search .inv .0) (entries-length _ _ (start .pre .0 .1)) (g .follow .now) (g .work .now) f r (search .left - 1) (omega arith)
+          before some (tried-found (loop .inv .2) (later .0) some (sym (c .before .follows .ensures) ∙ c .if2 .taken)),
     )
 
 pub last-move-spec : {M : Type 1} → statement M

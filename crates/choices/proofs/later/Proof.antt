@@ -34,6 +34,7 @@ add-least-from c = search needs
 least-from-requires : tie.Need-least-from-requires
 least-from-requires c κs = search needs
 
+-- The least member of a set that has the same members as the place's row.
 returns : tie.Need-returns
 returns c =
     let g = c .before .before .before .before .before .before .before .before .before .args in

@@ -5,6 +5,7 @@ use mathlib.Core.Path.{refl, sym, _∙_}
 use Rattle.choices.proofs.reads_on.Statement.{statement}
 use Rattle.choices.proofs.reads_on.Tie as tie
 
+-- What no set can have follows nothing; else the two tables are asked.
 returns : tie.Need-returns
 returns c =
     let g = c .before .before .before .before .args in
@@ -21,7 +22,10 @@ has-at-requires c κs = search needs
 
 returns-2 : tie.Need-returns-2
 returns-2 c =
-    (rw (← c .before .before .before .follows .ensures, c .before .before .if2 .taken) (c .has-at .ensures ∙ rw (c .before .letter .ensures .0) refl), λ e. c .before .before .before .before .if1 .left)
+    let branch = c .before .before in (
+      rw (← branch .before .follows .ensures, branch .if2 .taken) (c .has-at .ensures ∙ rw (c .before .letter .ensures .0) refl),
+      λ e. branch .before .before .if1 .left,
+    )
 
 returns-3 : tie.Need-returns-3
 returns-3 c =

@@ -1,6 +1,7 @@
 use borrow.Author.Needs.{needs}
 use Rattle.reader.proofs.Tests.{sheet-refused, sheet-passed}
 use Rattle.reader.specs.Refusals.{nameGrounds}
+use Rattle.reader.specs.Made.{lentOf}
 use Rattle.reader.proofs.call_test.Statement.{statement}
 use Rattle.reader.proofs.call_test.Tie as tie
 
@@ -10,10 +11,12 @@ test-requires c κs = search needs
 enum-known-s : tie.Need-enum-known-s
 enum-known-s c = search needs
 
+-- The sheet's refusal comes first; then those of the name.
 returns : tie.Need-returns
 returns c =
-    let g = c .before .before .before .before .before .before .before .before .args in
-    sheet-refused (g .sheet .now) (nameGrounds (g .name .now) (g .mapping .now) (g .work .now)) (c .before .s .given .1) (c .before .before .before .test .ensures)
+    let tested = c .before .before .before in
+    let g = tested .before .before .before .before .args in
+    sheet-refused (g .sheet .now) (nameGrounds (g .name .now) (lentOf (g .lent)) (g .work .now)) (c .before .s .given .1) (tested .test .ensures)
 
 enum-told : tie.Need-enum-told
 enum-told c = search needs
@@ -23,8 +26,10 @@ name-test-requires c κs = search needs
 
 returns-2 : tie.Need-returns-2
 returns-2 c =
-    let g = c .before .before .before .before .before .before .before .before .args in
-    sheet-passed (g .sheet .now) (nameGrounds (g .name .now) (g .mapping .now) (g .work .now)) (c .before .enum-told .given .1) (c .before .before .before .test .ensures) (c .name-test .ensures)
+    let tested = c .before .before .before in
+    let g = tested .before .before .before .before .args in
+    sheet-passed (g .sheet .now) (nameGrounds (g .name .now) (lentOf (g .lent)) (g .work .now)) (c .before .enum-told .given .1) (tested .test .ensures)
+    (c .name-test .ensures)
 
 pub call-test-spec : {M : Type 1} → statement M
 call-test-spec =

@@ -1,6 +1,8 @@
 use borrow.Author.Needs.{needs}
-use Rattle.reader.proofs.Ends.{check-refused, check-went}
+use Rattle.reader.proofs.Ends.{call-refused, check-went}
 use Rattle.reader.proofs.Tests.{Fit, fit}
+use mathlib.Core.Option.{some}
+use lib.ListN.{length}
 use Rattle.reader.proofs.check.Statement.{statement}
 use Rattle.reader.proofs.check.Tie as tie
 
@@ -8,7 +10,7 @@ use Rattle.reader.proofs.check.Tie as tie
 passed :
     (c : tie.After-enum-told) →
     let g = c .before .before .before .before .before .before .before .before .args in
-    Fit (g .sheet .now) (g .name .now) (g .mapping .now) (g .work .now)
+    Fit (g .sheet .now) (g .name .now) (some (length (g .mapping .now))) (g .work .now)
 passed c = fit (c .before .before .call-test .ensures) (c .enum-told .given .1)
 
 call-test-requires : tie.Need-call-test-requires
@@ -21,7 +23,7 @@ same-length : tie.Need-same-length
 same-length c = search needs
 
 returns : tie.Need-returns
-returns c = check-refused (c .before .before .before .call-test .ensures) (c .before .t .given .1)
+returns c = call-refused (c .before .before .before .call-test .ensures) (c .before .t .given .1)
 
 enum-told : tie.Need-enum-told
 enum-told c = search needs

@@ -1,26 +1,27 @@
 use borrow.Author.Needs.{needs}
-use Rattle.reader.proofs.Ends.{first-refused, first-went}
+use Rattle.reader.proofs.Ends.{wiped-refused, first-went}
 use Rattle.reader.proofs.Tests.{Fit, fit}
+use mathlib.Core.Option.{some}
+use lib.ListN.{length}
 use native.Mathlib.Omega.{arith}
 use Rattle.reader.proofs.first.Statement.{statement}
 use Rattle.reader.proofs.first.Tie as tie
 
--- the call passed its tests, which saw the mapping wiped
+-- the call passed its tests
 passed :
     (c : tie.After-enum-told) →
-    let wiped = c .before .before .before .before .before .before .before in
-    let g = wiped .before .before .before .before .before .before .args in
-    Fit (g .sheet .now) (g .name .now) (wiped .wipe-all .last .0) (g .work .now)
+    let g = c .before .before .before .before .before .before .before .before .args in
+    Fit (g .sheet .now) (g .name .now) (some (length (g .mapping .now))) (g .work .now)
 passed c = fit (c .before .before .call-test .ensures) (c .enum-told .given .1)
-
-wipe-all-requires : tie.Need-wipe-all-requires
-wipe-all-requires c κs = search needs
 
 call-test-requires : tie.Need-call-test-requires
 call-test-requires c κs = search needs
 
 enum-known-t : tie.Need-enum-known-t
 enum-known-t c = search needs
+
+refuse-requires : tie.Need-refuse-requires
+refuse-requires c κs = search needs
 
 same-length : tie.Need-same-length
 same-length c = search needs
@@ -29,7 +30,10 @@ same-length-2 : tie.Need-same-length-2
 same-length-2 c = search needs
 
 returns : tie.Need-returns
-returns c = first-refused (c .before .before .before .before .before .before .before .before .wipe-all .ensures) (c .before .before .before .call-test .ensures) (c .before .t .given .1)
+returns c =
+    let told = c .before .before .before .before .before in
+    let tested = told .before .before in
+    wiped-refused (tested .before .before .before .before .before .before .args .mapping .now) (tested .call-test .ensures) (told .t .given .1) (c .before .before .refuse .ensures)
 
 enum-told : tie.Need-enum-told
 enum-told c = search needs
@@ -39,8 +43,15 @@ first-reading-requires c κs = let f = passed (c .before .before) in (f .accepte
 
 wipe-rows-requires : tie.Need-wipe-rows-requires
 wipe-rows-requires c κs =
-    let f = passed (c .before .before .before .before .before .before .before .before) in
-    (f .short, omega (arith, f .room, c .before .before .before .before .before .first-reading .kept))
+    let searched = c .before .before .before .before .before in
+    let f = passed (searched .before .before .before) in
+    (f .short, omega (arith, f .room, searched .first-reading .kept))
+
+settle-requires : tie.Need-settle-requires
+settle-requires c κs =
+    let searched = c .before .before .before .before .before .before .before .before .before in
+    let f = passed (searched .before .before .before) in
+    omega (arith, f .held, searched .first-reading .kept)
 
 same-length-3 : tie.Need-same-length-3
 same-length-3 c = search needs
@@ -48,46 +59,30 @@ same-length-3 c = search needs
 same-length-4 : tie.Need-same-length-4
 same-length-4 c = search needs
 
+-- What the search came to is what the call answers and leaves.
 returns-2 : tie.Need-returns-2
 returns-2 c =
-    let ended = c .before .before .before in
-    let searched = ended .before .before .before .before .before .before in
-    let tested = searched .before .before .before in
-    let first = searched .first-reading in
-    first-went (tested .before .before .before .before .before .before .before .wipe-all .ensures) (passed tested) (first .last .1 .1 .0) (first .last .1 .1 .1 .0)
-    (first .kept .1 .1 .0) (first .ensures) (ended .wipe-rows .ensures) (c .if1 .taken)
-
-same-length-5 : tie.Need-same-length-5
-same-length-5 c = search needs
-
-same-length-6 : tie.Need-same-length-6
-same-length-6 c = search needs
-
-returns-3 : tie.Need-returns-3
-returns-3 c =
-    let ended = c .before .before .before in
-    let searched = ended .before .before .before .before .before .before in
-    let tested = searched .before .before .before in
-    let first = searched .first-reading in
-    first-went (tested .before .before .before .before .before .before .before .wipe-all .ensures) (passed tested) (first .last .1 .1 .0) (first .last .1 .1 .1 .0)
-    (first .kept .1 .1 .0) (first .ensures) (ended .wipe-rows .ensures) (c .if1 .left)
+    let settled = c .before .before in
+    let wiped = settled .before .before .before .before in
+    let searched = wiped .before .before .before .before .before .before in
+    let found = searched .first-reading in
+    first-went (passed (searched .before .before .before)) (found .result) (found .last .1 .1 .0) (found .last .1 .1 .1 .0) (found .kept .1 .1 .0)
+    (found .ensures) (wiped .wipe-rows .ensures) (settled .settle .ensures)
 
 pub first-spec : {M : Type 1} → statement M
 first-spec =
     tie.close
     (tie.spec
-    wipe-all-requires
     call-test-requires
     enum-known-t
+    refuse-requires
     same-length
     same-length-2
     returns
     enum-told
     first-reading-requires
     wipe-rows-requires
+    settle-requires
     same-length-3
     same-length-4
-    returns-2
-    same-length-5
-    same-length-6
-    returns-3)
+    returns-2)

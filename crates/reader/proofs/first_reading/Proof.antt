@@ -50,6 +50,7 @@ same-length c = search needs
 same-length-2 : tie.Need-same-length-2
 same-length-2 c = search needs
 
+-- Where the first row begins a reading, the choices from the start are the least one.
 returns : tie.Need-returns
 returns c =
     let chosen = c .before .before in
@@ -61,7 +62,7 @@ returns c =
           let t = tabled .tables .ensures P x in
           let rows = filled .fill .ensures .0 P (t .steps) (t .ends) (t .letter) in
           let inside = sym (begun .begins .ensures P (t .steps) (t .ends) rows) ∙ branch .if1 .taken in
-          (inside, chosen .choose .ensures .0 P (t .steps) rows (T-true _ inside), chosen .choose .ensures .1),
+          (inside, chosen .choose .ensures .0 P (t .steps) rows (T-true _ inside)),
       filled .fill .ensures .1,
     )
 
@@ -76,7 +77,7 @@ returns-2 c =
       λ P x.
           let t = tabled .tables .ensures P x in
           let rows = filled .fill .ensures .0 P (t .steps) (t .ends) (t .letter) in
-          (sym (begun .begins .ensures P (t .steps) (t .ends) rows) ∙ c .if1 .left, refl),
+          sym (begun .begins .ensures P (t .steps) (t .ends) rows) ∙ c .if1 .left,
       filled .fill .ensures .1,
     )
 

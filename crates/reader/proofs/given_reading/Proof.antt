@@ -28,6 +28,7 @@ slice-aggregate-is-reading-3 c = search needs
 is-reading-requires : tie.Need-is-reading-requires
 is-reading-requires c κs = search needs
 
+-- The tables are those of what the sheet stands for, and the entries are followed in them.
 returns : tie.Need-returns
 returns c =
     let tabled = c .before .before .before .before .before .before .before in

@@ -39,6 +39,7 @@ begins-requires c κs = search needs
 same-length : tie.Need-same-length
 same-length c = search needs
 
+-- The tables are those of what the sheet stands for; the rows are filled from them, and asked.
 returns : tie.Need-returns
 returns c =
     let filled = c .before .before .before .before .before .before in

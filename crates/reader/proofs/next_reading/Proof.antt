@@ -33,12 +33,14 @@ is-reading-requires c κs = search needs
 same-length : tie.Need-same-length
 same-length c = search needs
 
+-- The sequence is no reading; below, it is one, and it moves or it does not.
 returns : tie.Need-returns
 returns c =
     let read = c .before in
-    let tabled = read .before .before .before .before .before .before .before .before in (
+    let tabled = read .before .before .before .before .before .before .before .before in
+    let sheet = tabled .before .before .before .before .before .before .before .before .args .sheet .now in (
       λ P x.
-          let told = reading-told (tabled .before .before .before .before .before .before .before .before .args .sheet .now) (tabled .tables .ensures) (read .is-reading .ensures .0) P x in
+          let told = reading-told sheet (tabled .tables .ensures) (read .is-reading .ensures .0) P x in
           sym told ∙ not-true _ (c .if1 .taken),
       refl,
     )
@@ -61,7 +63,9 @@ slice-aggregate-advance c = search needs
 advance-requires : tie.Need-advance-requires
 advance-requires c κs = (
   search (needs, c .before .before .before .before .before .fill .kept .0),
-  let branch = c .before .before .before .before .before .before .before .before .before .before in branch .before .is-reading .ensures .1 (not-false _ (branch .if1 .left)),
+  let filled = c .before .before .before .before .before in
+      let branch = filled .before .before .before .before .before in
+      branch .before .is-reading .ensures .1 (not-false _ (branch .if1 .left)),
 )
 
 same-length-2 : tie.Need-same-length-2
@@ -76,11 +80,12 @@ returns-2 c =
     let filled = advanced .before .before .before .before .before .before in
     let branch = filled .before .before .before .before .before in
     let read = branch .before in
-    let tabled = read .before .before .before .before .before .before .before .before in (
+    let tabled = read .before .before .before .before .before .before .before .before in
+    let sheet = tabled .before .before .before .before .before .before .before .before .args .sheet .now in (
       λ P x.
           let t = tabled .tables .ensures P x in
           let rows = filled .fill .ensures .0 P (t .steps) (t .ends) (t .letter) in
-          let told = reading-told (tabled .before .before .before .before .before .before .before .before .args .sheet .now) (tabled .tables .ensures) (read .is-reading .ensures .0) P x in
+          let told = reading-told sheet (tabled .tables .ensures) (read .is-reading .ensures .0) P x in
           (sym told ∙ not-false _ (branch .if1 .left), rw (c .if2 .taken) at (advanced .advance .ensures .0 P (t .steps) rows)),
       filled .fill .ensures .1,
     )
@@ -97,11 +102,12 @@ returns-3 c =
     let filled = advanced .before .before .before .before .before .before in
     let branch = filled .before .before .before .before .before in
     let read = branch .before in
-    let tabled = read .before .before .before .before .before .before .before .before in (
+    let tabled = read .before .before .before .before .before .before .before .before in
+    let sheet = tabled .before .before .before .before .before .before .before .before .args .sheet .now in (
       λ P x.
           let t = tabled .tables .ensures P x in
           let rows = filled .fill .ensures .0 P (t .steps) (t .ends) (t .letter) in
-          let told = reading-told (tabled .before .before .before .before .before .before .before .before .args .sheet .now) (tabled .tables .ensures) (read .is-reading .ensures .0) P x in
+          let told = reading-told sheet (tabled .tables .ensures) (read .is-reading .ensures .0) P x in
           (sym told ∙ not-false _ (branch .if1 .left), rw (c .if2 .left) at (advanced .advance .ensures .0 P (t .steps) rows)),
       filled .fill .ensures .1,
     )

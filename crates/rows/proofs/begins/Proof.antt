@@ -26,10 +26,13 @@ meets-requires c κs = search needs
 
 returns-2 : tie.Need-returns-2
 returns-2 c =
-    let load-row = c .before .before .before .load-row in
-    let if1 = c .before .before .before .before .before .if1 in
-    let args = c .before .before .before .before .before .before .before .before .before .before .args in
-    λ P f s r. c .meets .ensures ∙ begins-some P (args .follow .now) (args .stops .now) f s (args .name .now) (args .work .now) (load-row .last .1 .0) (if1 .left) r (load-row .ensures)
+    let loaded = c .before .before .before in
+    let branch = loaded .before .before in
+    let args = branch .before .before .before .before .before .args in
+    λ P f s r.
+    c .meets .ensures ∙
+    begins-some P (args .follow .now) (args .stops .now) f s (args .name .now) (args .work .now)
+    (loaded .load-row .last .1 .0) (branch .if1 .left) r (loaded .load-row .ensures)
 
 pub begins-spec : {M : Type 1} → statement M
 begins-spec =

@@ -10,6 +10,7 @@ use mathlib.Core.Path.{_≡_, refl, _∙_}
 use Rattle.rows.proofs.fill.Statement.{statement}
 use Rattle.rows.proofs.fill.Tie as tie
 
+-- The rows from place i on are filled; each turn fills the row before them from the first of them.
 abbrev Inv-loop : tie.InvT-loop
 Inv-loop work₀ name follow stops letters i₀ work i = (i < length name) × (length work ≡ length work₀) × ((P : Pattern) → Follows P follow → Stops P stops → Letters P letters → RowsFrom P name work i) × (rowAt work (length name) ≡ rowAt work₀ (length name))
 
@@ -30,10 +31,9 @@ last-at-requires c κs = search needs
 
 loop-holds : tie.Need-loop-holds Inv-loop μ-loop
 loop-holds c =
-    let last-at = c .before .before .last-at in
-    let args = c .before .before .before .before .before .before .before .before .before .before .before .args in
-    let g = args in
-    let x = last-at in
+    let ended = c .before .before in
+    let x = ended .last-at in
+    let g = ended .before .before .before .before .before .before .before .before .before .args in
     (omega arith, refl, λ P f s l. rows-start P (g .name .now) (x .last .0) (length (g .name .now) - 1) (omega arith) (x .ensures .0 P s l), refl)
 
 sub-i-2 : tie.Need-sub-i-2 Inv-loop μ-loop
@@ -50,24 +50,29 @@ loop-less c = search needs
 
 loop-again : tie.Need-loop-again Inv-loop μ-loop
 loop-again c =
-    let row-at = c .before .before .row-at in
-    let loop = c .before .before .before .before .before .before .loop in
-    let args = c .before .before .before .before .before .before .before .before .before .before .before .before .before .before .before .before .before .before .args in
-    let g = args in
-    let l = loop in
-    let x = row-at in
-    (omega arith, omega arith, λ P f s t. rows-turn P (g .name .now) (l .work) (x .last .0) (l .i - 1) (l .i) (omega arith) (l .inv .0) (x .ensures .1) (λ b bs old. x .ensures .0 P b bs f t old) (l .inv .2 P f s t), row-later (l .work) (x .last .0) (l .i - 1) (length (g .name .now)) (omega arith) (x .ensures .1) ∙ l .inv .3)
+    let turn = c .before .before .before .before .before .before in
+    let ended = turn .before .before .before in
+    let g = ended .before .before .before .before .before .before .before .before .before .args in
+    let l = turn .loop in
+    let x = c .before .before .row-at in
+    let filled = x .last .0 in (
+      omega arith,
+      omega arith,
+      λ P f s t.
+          rows-turn P (g .name .now) (l .work) filled (l .i - 1) (l .i) (omega arith) (l .inv .0) (x .ensures .1)
+          (λ b bs old. x .ensures .0 P b bs f t old) (l .inv .2 P f s t),
+      row-later (l .work) filled (l .i - 1) (length (g .name .now)) (omega arith) (x .ensures .1) ∙ l .inv .3,
+    )
 
 same-length : tie.Need-same-length Inv-loop μ-loop
 same-length c = search needs
 
 returns-2 : tie.Need-returns-2 Inv-loop μ-loop
 returns-2 c =
-    let last-at = c .before .before .before .before .last-at in
-    let args = c .before .before .before .before .before .before .before .before .before .before .before .before .before .args in
-    let g = args in
+    let ended = c .before .before .before .before in
+    let g = ended .before .before .before .before .before .before .before .before .before .args in
     let l = c .before .loop in
-    let x = last-at in
+    let x = ended .last-at in
     let e : length (g .name .now) - 1 + 1 ≡ length (g .name .now) = omega arith in
     (λ P f s t i h. l .inv .2 P f s t i (omega arith) h, l .inv .3 ∙ rw e at (x .ensures .1))
 

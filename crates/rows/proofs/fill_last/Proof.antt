@@ -31,19 +31,18 @@ store-row-requires c κs = search needs
 same-length : tie.Need-same-length
 same-length c = search needs
 
+-- A position is live if it takes the last byte and a word may end after it.
 returns : tie.Need-returns
 returns c =
-    let store-row = c .before .before .store-row in
-    let intersect = c .before .before .before .before .before .before .intersect in
-    let copy-set = c .before .before .before .before .before .before .before .before .before .copy-set in
-    let letter = c .before .before .before .before .before .before .before .before .before .before .letter in
-    let args = c .before .before .before .before .before .before .before .before .before .before .before .before .before .before .before .args in
-    let g = args in
-    let a = copy-set in
-    let k = intersect in
-    let s = store-row in (
+    let copied = c .before .before .before .before .before .before .before .before .before in
+    let g = copied .before .before .before .before .before .before .args in
+    let letter = copied .before .letter in
+    let a = copied .copy-set in
+    let k = c .before .before .before .before .before .before .intersect in
+    let s = c .before .before .store-row in (
       λ P e l.
-          live-last P (g .stops .now) (g .letters .now) (a .last .0) (k .last .0) (s .last .0) (g .byte) e l (k .ensures) (λ x. rw (letter .ensures .0) at (a .ensures 0 x)) (s .ensures .0),
+          live-last P (g .stops .now) (g .letters .now) (a .last .0) (k .last .0) (s .last .0) (g .byte) e l
+          (k .ensures) (λ x. rw (letter .ensures .0) at (a .ensures 0 x)) (s .ensures .0),
       drop-same setBytes rowSize (g .row .now) (s .last .0) (s .kept .0) (omega arith) (s .ensures .1),
     )
 

@@ -47,17 +47,16 @@ store-row-requires c κs = search needs
 same-length : tie.Need-same-length
 same-length c = search needs
 
+-- A position is live if it takes the byte and one of the row after it may come next.
 returns : tie.Need-returns
 returns c =
-    let store-row = c .before .before .store-row in
-    let sift = c .before .before .before .before .before .before .sift in
-    let letter = c .before .before .before .before .before .before .before .before .letter in
-    let load-row = c .before .before .before .before .before .before .before .before .before .before .before .load-row in
-    let args = c .before .before .before .before .before .before .before .before .before .before .before .before .before .before .before .before .before .before .args in
-    let g = args in
-    let a = load-row in
-    let k = sift in
-    let s = store-row in (
+    let sifted = c .before .before .before .before .before .before in
+    let loaded = sifted .before .before .before .before .before in
+    let g = loaded .before .before .before .before .before .before .before .args in
+    let letter = sifted .before .before .letter in
+    let a = loaded .load-row in
+    let k = sifted .sift in
+    let s = c .before .before .store-row in (
       λ P b bs f l old.
           live-step P b bs (g .follow .now) (g .letters .now) (a .last .1 .0) (k .last .0) (s .last .0) (drop rowSize (g .row .now)) (g .byte) f l
           (λ x. a .ensures x ∙ ap (λ (r : List ℕ). rowHas r x) (rest-of (g .row .now) rowSize))

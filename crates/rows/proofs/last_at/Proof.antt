@@ -22,6 +22,7 @@ fill-last-requires c κs = search needs
 same-length : tie.Need-same-length
 same-length c = search needs
 
+-- What is lent begins at the row; what comes back has the row filled and nothing after it changed.
 returns : tie.Need-returns
 returns c =
     let fill-last = c .before .before .fill-last in

@@ -22,6 +22,7 @@ fill-row-requires c κs = search needs
 same-length : tie.Need-same-length
 same-length c = search needs
 
+-- What is lent begins at the row; what comes back has the row filled and no later row changed.
 returns : tie.Need-returns
 returns c =
     let fill-row = c .before .before .fill-row in

@@ -21,9 +21,12 @@ same-length c = search needs
 
 returns : tie.Need-returns
 returns c =
-    let accept = c .before .before .before .before .accept in
-    let args = c .before .before .before .before .before .before .before .before .before .args in
-    name-exports (AcceptCall (args .sheet .now) (args .name .now) (args .work .now)) (accept .result) _ _ ((c .before .number) .result) ((c .pack) .result) ((c .before .number) .ensures) ((c .pack) .ensures) (accept .ensures)
+    let called = c .before .before .before .before in
+    let args = called .before .before .before .before .before .args in
+    let accept = called .accept in
+    let number = c .before .number in
+    name-exports (AcceptCall (args .sheet .now) (args .name .now) (args .work .now)) (accept .result) _ _
+    (number .result) (c .pack .result) (number .ensures) (c .pack .ensures) (accept .ensures)
 
 pub satchelram-accept-spec : {M : Type 1} → statement M
 satchelram-accept-spec =

@@ -21,9 +21,12 @@ same-length c = search needs
 
 returns : tie.Need-returns
 returns c =
-    let check = c .before .before .before .before .check in
-    let args = c .before .before .before .before .before .before .before .before .before .before .args in
-    name-exports (CheckCall (args .sheet .now) (args .name .now) (args .mapping .now) (args .work .now)) (check .result) _ _ ((c .before .number) .result) ((c .pack) .result) ((c .before .number) .ensures) ((c .pack) .ensures) (check .ensures)
+    let called = c .before .before .before .before in
+    let args = called .before .before .before .before .before .before .args in
+    let check = called .check in
+    let number = c .before .number in
+    name-exports (CheckCall (args .sheet .now) (args .name .now) (args .mapping .now) (args .work .now)) (check .result) _ _
+    (number .result) (c .pack .result) (number .ensures) (c .pack .ensures) (check .ensures)
 
 pub satchelram-check-spec : {M : Type 1} → statement M
 satchelram-check-spec =

@@ -24,9 +24,12 @@ same-length-2 c = search needs
 
 returns : tie.Need-returns
 returns c =
-    let first = c .before .before .before .before .before .before .first in
-    let args = c .before .before .before .before .before .before .before .before .before .before .before .before .before .args in
-    name-exports (FirstCall (args .sheet .now) (args .name .now) (args .mapping .now) (args .work .now)) (first .result) _ _ ((c .before .number) .result) ((c .pack) .result) ((c .before .number) .ensures) ((c .pack) .ensures) (first .ensures)
+    let called = c .before .before .before .before .before .before in
+    let args = called .before .before .before .before .before .before .before .args in
+    let first = called .first in
+    let number = c .before .number in
+    name-exports (FirstCall (args .sheet .now) (args .name .now) (args .mapping .now) (args .work .now)) (first .result) _ _
+    (number .result) (c .pack .result) (number .ensures) (c .pack .ensures) (first .ensures)
 
 pub satchelram-first-spec : {M : Type 1} → statement M
 satchelram-first-spec =

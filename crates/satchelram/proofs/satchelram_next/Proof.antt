@@ -24,9 +24,12 @@ same-length-2 c = search needs
 
 returns : tie.Need-returns
 returns c =
-    let next = c .before .before .before .before .before .before .next in
-    let args = c .before .before .before .before .before .before .before .before .before .before .before .before .before .args in
-    name-exports (NextCall (args .sheet .now) (args .name .now) (args .mapping .now) (args .work .now)) (next .result) _ _ ((c .before .number) .result) ((c .pack) .result) ((c .before .number) .ensures) ((c .pack) .ensures) (next .ensures)
+    let called = c .before .before .before .before .before .before in
+    let args = called .before .before .before .before .before .before .before .args in
+    let next = called .next in
+    let number = c .before .number in
+    name-exports (NextCall (args .sheet .now) (args .name .now) (args .mapping .now) (args .work .now)) (next .result) _ _
+    (number .result) (c .pack .result) (number .ensures) (c .pack .ensures) (next .ensures)
 
 pub satchelram-next-spec : {M : Type 1} → statement M
 satchelram-next-spec =

@@ -33,8 +33,9 @@ same-length c = search needs
 returns : tie.Need-returns
 returns c =
     let a = c .before .before .a in
-    let make = c .before .before .before .before .before .before .make in
-    let args = c .before .before .before .before .before .before .before .before .before .before .args in
+    let made = c .before .before .before .before .before .before in
+    let make = made .make in
+    let args = made .before .before .before .before .args in
     sheet-exports (args .text .now) (args .sheet .now) (make .last .1 .0) (make .result) 0 (a .given .0 .0) (ap (λ (x : Made). sheetEnd x (make .last .1 .0)) (a .given .1)) (make .ensures) ((c .pack) .result) ((c .pack) .ensures)
 
 same-length-2 : tie.Need-same-length-2
@@ -43,8 +44,9 @@ same-length-2 c = search needs
 returns-2 : tie.Need-returns-2
 returns-2 c =
     let a2 = c .before .before .a2 in
-    let make = c .before .before .before .before .before .before .make in
-    let args = c .before .before .before .before .before .before .before .before .before .before .args in
+    let made = c .before .before .before .before .before .before in
+    let make = made .make in
+    let args = made .before .before .before .before .args in
     sheet-exports (args .text .now) (args .sheet .now) (make .last .1 .0) (make .result) (a2 .given .0 .0 .number) (a2 .given .0 .0 .place) (ap (λ (x : Made). sheetEnd x (make .last .1 .0)) (a2 .given .1)) (make .ensures) ((c .pack2) .result) ((c .pack2) .ensures)
 
 pub satchelram-sheet-spec : {M : Type 1} → statement M
