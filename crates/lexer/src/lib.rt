@@ -89,12 +89,6 @@ pub fn unit_at(text: &[u8], at: usize) -> bool
 fn kind_of(b: u8) -> Kind
     ensures { λ r. ⌜ r ≡ kindOf b ⌝ }
 {
-    if b < LOWEST_BYTE {
-        return Kind::Refused;
-    }
-    if HIGHEST_BYTE < b {
-        return Kind::Refused;
-    }
     if b == b'|' {
         return Kind::Mark;
     }
@@ -115,6 +109,12 @@ fn kind_of(b: u8) -> Kind
     }
     if b == b'}' {
         return Kind::Mark;
+    }
+    if b < LOWEST_BYTE {
+        return Kind::Refused;
+    }
+    if HIGHEST_BYTE < b {
+        return Kind::Refused;
     }
     Kind::Plain
 }
