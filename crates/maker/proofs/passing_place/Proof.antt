@@ -1,0 +1,88 @@
+use Prim.Native.Nat.{_≤_, _-_}
+use borrow.Author.Needs.{needs}
+use lib.ListN.{length}
+use mathlib.Core.Path.{refl, _≡_}
+use native.Mathlib.Omega.{arith}
+use Rattle.lexer.specs.Tokens.{tokensFrom}
+use Rattle.maker.proofs.Walks.{passes-none, passing-over, passes-here, passes-later, passes-end}
+use Rattle.maker.specs.Steps.{Stepped}
+use Rattle.rules.specs.Limits.{leafLimit}
+use Rattle.text.specs.Refusals.{passing}
+use Rattle.maker.proofs.passing_place.Statement.{statement}
+use Rattle.maker.proofs.passing_place.Tie as tie
+
+abbrev Inv-loop : tie.InvT-loop
+Inv-loop text i₀ n₀ i n =
+    (passing n (tokensFrom text i) ≡ passing 0 (tokensFrom text 0)) × (i ≤ length text) × (n ≤ leafLimit)
+
+abbrev μ-loop : tie.MeasureT-loop
+μ-loop text i₀ n₀ i n = length text - i
+
+stepped :
+    (c : tie.After-s Inv-loop μ-loop) →
+    let head = c .before .before .before .before in
+    Stepped (head .before .before .args .text .now) (head .loop .i) (c .s .given .0 .0) (c .s .given .0 .1 .0)
+stepped c = rw (c .s .given .1) at (c .before .before .step-over .ensures)
+
+loop-holds : tie.Need-loop-holds Inv-loop μ-loop
+loop-holds c = (refl, omega arith, omega arith)
+
+step-over-requires : tie.Need-step-over-requires Inv-loop μ-loop
+step-over-requires c κs = search needs
+
+enum-known-s : tie.Need-enum-known-s Inv-loop μ-loop
+enum-known-s c = search needs
+
+enum-told : tie.Need-enum-told Inv-loop μ-loop
+enum-told c = search needs
+
+returns : tie.Need-returns Inv-loop μ-loop
+returns c =
+    let read = c .before .before in
+    let loop = read .before .before .loop in
+    let text = read .before .before .before .before .args .text .now in
+    let told = c .enum-told .given in
+    passes-none text (loop .i) (loop .n) (loop .inv .0) (passing-over (loop .n) text (loop .i) (told .0 .0) (loop .inv .2) (rw (told .1) at (read .step-over .ensures)))
+
+add-if1 : tie.Need-add-if1 Inv-loop μ-loop
+add-if1 c = omega (arith, stepped (c .before) .few, c .before .before .before .before .before .loop .inv .2)
+
+returns-2 : tie.Need-returns-2 Inv-loop μ-loop
+returns-2 c =
+    let loop = c .before .before .before .before .before .before .loop in
+    passes-here (c .before .before .before .before .before .before .before .before .args .text .now) (loop .i) (loop .n) (loop .inv .0) (stepped (c .before .before)) (c .if1 .taken)
+
+add-n : tie.Need-add-n Inv-loop μ-loop
+add-n c = omega (arith, stepped (c .before .before) .few, c .before .before .before .before .before .before .loop .inv .2)
+
+loop-less : tie.Need-loop-less Inv-loop μ-loop
+loop-less c = let s = stepped (c .before .before) in omega (arith, s .further, s .inside)
+
+loop-again : tie.Need-loop-again Inv-loop μ-loop
+loop-again c =
+    let loop = c .before .before .before .before .before .before .loop in
+    let s = stepped (c .before .before) in
+    (passes-later (c .before .before .before .before .before .before .before .before .args .text .now) (loop .i) (loop .n) (loop .inv .0) s (c .if1 .left), s .inside, c .if1 .left)
+
+returns-3 : tie.Need-returns-3 Inv-loop μ-loop
+returns-3 c =
+    let loop = c .before .loop in
+    passes-end (c .before .before .before .args .text .now) (loop .i) (loop .n) (loop .inv .0) (omega (arith, c .loop-test .left))
+
+pub passing-place-spec : {M : Type 1} → statement M
+passing-place-spec =
+    tie.close
+    (tie.spec
+    Inv-loop
+    μ-loop
+    loop-holds
+    step-over-requires
+    enum-known-s
+    enum-told
+    returns
+    add-if1
+    returns-2
+    add-n
+    loop-less
+    loop-again
+    returns-3)
