@@ -73,9 +73,8 @@ module _ (t : List ℕ) (here : ℕ) where
     pub literal-brace : starts (drop here t) leftParenthesis ≡ false → kindOf (getD t here 0) ≡ Mark → (getD t here 0 ≡ backslash → ⊥)
         → LiteralIs t here (Fault (at here repeatFault))
     literal-brace p k n =
-        let o =
-        other (getD t here 0) (front-in unitAt t here unit-inside ∙ u)
-        (front-in (λ (s : List ℕ). starts s leftParenthesis) t here unit-inside ∙ p) in
+        let unopened = front-in (λ (s : List ℕ). starts s leftParenthesis) t here unit-inside ∙ p in
+        let o = other (getD t here 0) (front-in unitAt t here unit-inside ∙ u) unopened in
         fault-here unit-inside repeatFault (rw (k, o .no-bar, o .no-star, o .no-open, o .no-close, ne-eqb (getD t here 0) backslash n) refl)
 
   -- after a backslash
@@ -87,7 +86,8 @@ module _ (t : List ℕ) (here : ℕ) where
     escaped-end h = fault-here (byte-inside t here backslash e) textByte (after ∙ ap escapedOf (drop-of-length-le t {i = here + 1} h))
 
     module _ (h : here + 1 < length t) where
-      by : {k : Kind} → kindOf (getD t (here + 1) 0) ≡ k → tokenOf (getD t here 0) (drop (here + 1) t) ≡ escapedBy k (getD t (here + 1) 0) (drop (here + 1 + 1) t)
+      by : {k : Kind} → kindOf (getD t (here + 1) 0) ≡ k
+          → tokenOf (getD t here 0) (drop (here + 1) t) ≡ escapedBy k (getD t (here + 1) 0) (drop (here + 1 + 1) t)
       by m = after ∙ sym (front-in escapedOf t (here + 1) h) ∙ rw m refl
 
       pub escaped-mark : (q : Literal) → kindOf (getD t (here + 1) 0) ≡ Mark → q ≡ literalWith (getD t (here + 1) 0) (here + 2) (repeatAt (drop (here + 2) t))

@@ -1,4 +1,4 @@
--- What the lexer's functions answer about a place of a text. Inner contracts cite these; the public ones do not.
+-- What the lexer's functions answer about a place of a text, and its walks about a whole one. No contract of an export cites these.
 use mathlib.Core.Path.{_≡_}
 use mathlib.Core.Bool.{Bool, true, false, _&&_, not}
 use mathlib.Core.Option.{Option, none, some}
@@ -34,12 +34,13 @@ abbrev pub unitAt : List ℕ → Bool
 unitAt [] = false
 unitAt (b ∷ s) = startsUnit b
 
+-- a literal that is no mark
 abbrev pub isPlain : Kind → Bool
 isPlain Plain = true
 isPlain Mark = false
 isPlain Refused = false
 
--- the first of these bytes is a literal that is no mark, with no repeat after it
+-- the first of these bytes is one, with no repeat after it
 abbrev pub plainAt : List ℕ → Bool
 plainAt [] = false
 plainAt (b ∷ s) = isPlain (kindOf b) && not (starts s leftBrace)
@@ -49,6 +50,7 @@ abbrev pub numberOf : Figure → Number
 numberOf (Digits x i) = digits x i
 numberOf Nothing = noNumber
 
+-- its value and its digits, which stand in the text
 abbrev pub FigureFits : ℕ → ℕ → Figure → Type 0
 FigureFits len place (Digits x i) = (x ≤ mostCopies) × (i ≤ 2) × (place + i ≤ len)
 FigureFits len place Nothing = Unit {0}
@@ -63,6 +65,7 @@ literalWith b place noRepeat = Of b 1 1 place
 literalWith b place badRepeat = Fault (at place repeatFault)
 literalWith b place (repeat x y n) = Of b x y (place + n)
 
+-- its numbers in order and small, and the place after it in the text
 abbrev pub LiteralFits : ℕ → ℕ → Literal → Type 0
 LiteralFits len place (Of b x y next) = (x ≤ y) × (y ≤ mostCopies) × (place ≤ next) × (next ≤ len)
 LiteralFits len place (Fault f) = Unit {0}
