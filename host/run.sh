@@ -1,8 +1,10 @@
 #!/usr/bin/env bash
 # host/run.sh ARCHIVE_DIR [--long] [--seed N]
-# Holds ARCHIVE_DIR/libsatchelram.a against the second matcher and the documents, compiles the header as C and C++, installs
-# the library into a temporary folder and runs demo.c from there. --long: a much longer comparison, by a seed from the
-# clock. --seed: the first seed of the random inputs (1 otherwise); a failed round prints its own.
+# Holds ARCHIVE_DIR/libsatchelram.a against the second matcher and the documents, compiles the header as C and C++ with its
+# example and its words, installs
+# the library into a temporary folder and runs demo.c from there.
+# --long: a much longer comparison, by a seed from the clock. --seed: the first seed of the random inputs (1 otherwise); a
+# failed round prints its own.
 #
 # The archive is x86-64. On an aarch64 machine everything is built for x86-64 with Debian's packages and run by qemu.
 # What is missing is installed with apt-get; nothing is skipped.
@@ -59,17 +61,19 @@ has_all() {
 set_up_x86_64() {
     has_all cargo || install_packages cargo
     has_all gcc g++ pkg-config || install_packages gcc g++ libc6-dev pkg-config
-    cargo=(cargo) cc=(gcc) cxx=(g++) runner=()
+    cargo=(cargo) cc=(gcc) cxx=(g++) nm=(nm) runner=()
 }
 
 # An aarch64 machine: Debian's rustc with the amd64 std, Debian's cross compilers, qemu in front of a program.
 set_up_aarch64() {
     if ! has_all /usr/bin/cargo /usr/bin/rustc qemu-x86_64 x86_64-linux-gnu-gcc x86_64-linux-gnu-g++ pkg-config ||
-        [ ! -d /usr/lib/rustlib/$target/lib ]; then
+        [ ! -d /usr/lib/rustlib/$target/lib ] || [ ! -e /lib64/ld-linux-x86-64.so.2 ] || [ ! -e /usr/lib/x86_64-linux-gnu/libstdc++.so.6 ]; then
         dpkg --add-architecture amd64 || stop "dpkg cannot take in amd64"
-        install_packages cargo rustc libstd-rust-dev:amd64 qemu-user gcc-x86-64-linux-gnu g++-x86-64-linux-gnu pkg-config
+        install_packages cargo rustc libstd-rust-dev:amd64 libc6:amd64 libstdc++6:amd64 qemu-user \
+            gcc-x86-64-linux-gnu g++-x86-64-linux-gnu pkg-config
     fi
-    cargo=(env RUSTC=/usr/bin/rustc /usr/bin/cargo) cc=(x86_64-linux-gnu-gcc) cxx=(x86_64-linux-gnu-g++) runner=(qemu-x86_64)
+    cargo=(env RUSTC=/usr/bin/rustc /usr/bin/cargo) cc=(x86_64-linux-gnu-gcc) cxx=(x86_64-linux-gnu-g++)
+    nm=(x86_64-linux-gnu-nm) runner=(qemu-x86_64)
     export CARGO_TARGET_X86_64_UNKNOWN_LINUX_GNU_LINKER=x86_64-linux-gnu-gcc
     export CARGO_TARGET_X86_64_UNKNOWN_LINUX_GNU_RUNNER=qemu-x86_64
 }
@@ -110,6 +114,45 @@ hold_headers() {
     done
 }
 
+# The words of the numbers against the headings of docs/ANSWERS.md; no number has other words.
+hold_words() {
+    "${cc[@]}" -std=c99 "${warnings[@]}" -I include -o "$temporary/words" host/words.c || stop "the words do not compile"
+    "${runner[@]}" "$temporary/words" >"$temporary/words.printed" || stop "the words failed"
+    awk '/^## [0-9]+ `[A-Z_]+`: / {
+            number = $2; sub(/^## [0-9]+ `[A-Z_]+`: /, ""); gsub(/`/, ""); words[number] = $0; count++
+        }
+        END {
+            for (number = 0; number < 300; number++) print number, number in words ? words[number] : "no number of Satchelram"
+            exit count != 24
+        }' docs/ANSWERS.md >"$temporary/words.expected" || stop "docs/ANSWERS.md has not 24 numbers"
+    diff "$temporary/words.expected" "$temporary/words.printed" || stop "satchelram_words has other words than docs/ANSWERS.md"
+    echo "words: as in docs/ANSWERS.md"
+}
+
+# The example in the header's first comment, as it stands there, on P5 of document 01, a refused text and a name that does not fit.
+hold_example() {
+    {
+        awk '/^ \*     #include <satchelram.h>/ { on = 1 } /^ \* [^ ]/ { on = 0 } on { sub(/^ \* ?/, ""); print }' include/satchelram.h
+        echo 'int main(void) { return !(print_readings("a*a*", "aa") == 1 && print_readings("a|*", "a") == 12 && print_readings("a", "b") == 1); }'
+    } >"$temporary/example.c"
+    "${cc[@]}" -std=c99 "${warnings[@]}" -I include -o "$temporary/example" "$temporary/example.c" "$archive_dir/libsatchelram.a" ||
+        stop "the header's example does not compile"
+    "${runner[@]}" "$temporary/example" >"$temporary/example.printed" || stop "the header's example answers something else"
+    diff <(printf '%s\n' 1,1 1,2 2,2) "$temporary/example.printed" || stop "the header's example prints something else"
+    echo "example: as expected"
+}
+
+# The header says that only these are imported.
+hold_imports() {
+    local imported
+    imported=$("${nm[@]}" -u "$archive_dir/libsatchelram.a" | awk '$1 == "U" { print $2 }' | sort -u | tr '\n' ' ')
+    [ "$imported" = "memcpy memset " ] || stop "the archive imports $imported"
+    "${cxx[@]}" -std=c++98 "${warnings[@]}" -Wold-style-cast -I include -o "$temporary/casts" host/casts.cpp "$archive_dir/libsatchelram.a" ||
+        stop "the header gives warnings for casts"
+    "${runner[@]}" "$temporary/casts" || stop "the header as C++ answers something else"
+    echo "imports and casts: as expected"
+}
+
 # demo.c as its first lines say, from an installed library.
 demonstrate() {
     local flags
@@ -124,5 +167,8 @@ demonstrate() {
 
 compare
 hold_headers
+hold_words
+hold_example
+hold_imports
 demonstrate
 echo "host/run.sh: all passed"
