@@ -30,11 +30,12 @@ const PAGE: usize = 8192;
 // Reads of the input at most, so that the program ends; each takes up to 4,096 bytes.
 const TURNS: u64 = 1 << 50;
 
-// Where the input stands: which line, and how many bytes of each were kept. Lines 0 and 1 are read; then it is OVER, or a read has FAILED.
+// What comes after the lines 0 and 1: the input is over, or a read of it has failed.
 const OVER: usize = 2;
 
 const FAILED: usize = 3;
 
+// Where the input stands: which line, and how many bytes of each were kept.
 struct Lines {
     line: usize,
     text: usize,
@@ -89,7 +90,7 @@ fn take_all(from: Lines, bytes: &[u8], text: &mut [u8], name: &mut [u8]) -> Line
     at
 }
 
-// The input ends where it stands: over, or by a read that failed.
+// No more is read; the line says why.
 fn ended(at: Lines, line: usize) -> Lines {
     Lines {
         line,
@@ -172,6 +173,11 @@ fn put_end(page: &mut [u8], out: &mut usize, count: u64) {
     put(page, out, b"\n");
 }
 
+fn put_refused(page: &mut [u8], out: &mut usize, n: u64) {
+    put(page, out, b"refused ");
+    put_number(page, out, n);
+}
+
 // Asks for the next reading and lists it, if there is one.
 fn list_next(
     page: &mut [u8],
@@ -230,8 +236,7 @@ fn list_all(
     } else if number(answer) == 1 {
         put_end(page, out, 0);
     } else {
-        put(page, out, b"refused ");
-        put_number(page, out, number(answer));
+        put_refused(page, out, number(answer));
         put(page, out, b"\n");
     }
 }
@@ -252,8 +257,7 @@ fn list(page: &mut [u8], out: &mut usize, text: &[u8], name: &[u8]) {
             &mut work,
         );
     } else {
-        put(page, out, b"refused ");
-        put_number(page, out, number(answer));
+        put_refused(page, out, number(answer));
         put(page, out, b" at ");
         put_number(page, out, second(answer));
         put(page, out, b"\n");
