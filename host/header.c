@@ -50,6 +50,22 @@ static void unpacking(void)
     }
 }
 
+/* The header's version in its three forms, and the archive's. */
+static void versions(void)
+{
+    char text[40];
+    sprintf(text, "%d.%d.%d", SATCHELRAM_VERSION_MAJOR, SATCHELRAM_VERSION_MINOR, SATCHELRAM_VERSION_PATCH);
+    tests += 2;
+    if (strcmp(text, SATCHELRAM_VERSION) != 0) {
+        faults++;
+        fprintf(stderr, "header: version %s is not %s\n", text, SATCHELRAM_VERSION);
+    }
+    if (satchelram_version() != SATCHELRAM_VERSION_NUMBER) {
+        faults++;
+        fprintf(stderr, "header: version %d, the archive's is %lu\n", SATCHELRAM_VERSION_NUMBER, (unsigned long)satchelram_version());
+    }
+}
+
 static void texts(void)
 {
     expect("made", made_of("a"), SATCHELRAM_DONE, 5);
@@ -89,7 +105,7 @@ static void sheet_room(void)
 static void tested(const char *what, const uint8_t *given, size_t length, unsigned number)
 {
     unsigned next = number == SATCHELRAM_NO ? SATCHELRAM_NO_READING : number == SATCHELRAM_DONE ? SATCHELRAM_NO : number;
-    expect(what, satchelram_accept(given, length, bytes, 0, work, sizeof work), number, 0);
+    expect(what, satchelram_accept(given, length, bytes, 0, work, SATCHELRAM_WORK_SIZE(0)), number, 0);
     expect(what, satchelram_first(given, length, bytes, 0, mapping, 0, work, sizeof work), number, 0);
     expect(what, satchelram_next(given, length, bytes, 0, mapping, 0, work, sizeof work), next, 0);
     expect(what, satchelram_check(given, length, bytes, 0, mapping, 0, work, sizeof work), number, 0);
@@ -181,6 +197,7 @@ static void name_bounds(void)
 int main(void)
 {
     unpacking();
+    versions();
     texts();
     text_bounds();
     sheet_room();

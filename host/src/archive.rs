@@ -1,10 +1,12 @@
-//! Safe calls of the archive's five exported functions.
+//! Safe calls of the archive's exported functions.
 //!
 //! A slice is never null and has its true length, and what is lent `mut` overlaps nothing: all that the C header asks
 //! of a caller, but for room on the stack.
 
 mod exported {
     extern "C" {
+        pub fn satchelram_version() -> u64;
+
         pub fn satchelram_sheet(
             text: *const u8,
             text_length: usize,
@@ -62,7 +64,7 @@ pub struct Answer {
     pub number: u8,
     /// A place, or the length that the sheet call gives with 0 and 18, or 0. It has 24 bits.
     pub second: u32,
-    /// 0 for these five calls.
+    /// 0 for the five calls below that have an answer.
     pub third: u32,
 }
 
@@ -74,6 +76,11 @@ impl Answer {
             third: (packed >> 32) as u32,
         }
     }
+}
+
+/// The archive's version: 1,000,000 x major + 1,000 x minor + patch.
+pub fn version() -> u64 {
+    unsafe { exported::satchelram_version() }
 }
 
 /// Makes the sheet of a text.

@@ -2,7 +2,7 @@
 
 mod common;
 
-use common::{calls, garbage, GARBAGE, SHEET_ROOM};
+use common::{calls, garbage, GARBAGE, SHEET_MOST};
 use satchelram_host::matcher::calls::{work_needed, Outcome};
 use satchelram_host::matcher::listing::listing;
 use std::collections::BTreeSet;
@@ -74,7 +74,7 @@ impl Example {
 
     fn run(&self) -> Outcome {
         if self.needed("call") == "sheet" {
-            return calls::sheet(&bytes(self.needed("text")), &self.room("room", SHEET_ROOM));
+            return calls::sheet(&bytes(self.needed("text")), &self.room("room", SHEET_MOST));
         }
         let (sheet, name) = (bytes(self.needed("sheet")), bytes(self.needed("name")));
         let mapping = self.mapping(name.len());
@@ -105,7 +105,7 @@ fn bytes(value: &str) -> Vec<u8> {
         return Vec::new();
     }
     if let Some(text) = value.strip_prefix("sheet of ") {
-        let outcome = calls::sheet(&bytes(text), &[0; SHEET_ROOM]);
+        let outcome = calls::sheet(&bytes(text), &[0; SHEET_MOST]);
         assert_eq!(outcome.number, 0, "{}", value);
         return outcome.sheet[..outcome.second].to_vec();
     }
@@ -245,7 +245,7 @@ fn listings(name: &str) -> Vec<(String, String, String)> {
 
 /// What the listing program prints, by the calls under test.
 fn listed(expression: &[u8], name: &[u8]) -> String {
-    let made = calls::sheet(expression, &[0; SHEET_ROOM]);
+    let made = calls::sheet(expression, &[0; SHEET_MOST]);
     if made.number != 0 {
         return format!("refused {} at {}\n", made.number, made.second);
     }

@@ -2,7 +2,7 @@
 
 mod common;
 
-use common::{both, garbage, lent, options, work_for, work_searched, SHEET_ROOM, SPARE};
+use common::{both, garbage, lent, options, work_for, work_searched, SHEET_MOST, SPARE};
 use satchelram_host::generate::every;
 use satchelram_host::matcher::calls::Outcome;
 use satchelram_host::matcher::limits::{DONE, NO, NO_READING};
@@ -109,7 +109,7 @@ fn every_sequence_is_a_reading_or_not() {
 #[test]
 fn every_short_text_is_made_or_refused() {
     let most = if options::long() { 6 } else { 5 };
-    let room = garbage(SHEET_ROOM + SPARE);
+    let room = garbage(SHEET_MOST + SPARE);
     for text in every::words(b"ab|*()\\{},01", most) {
         let outcome = both::sheet(&text, &room);
         if outcome.number == DONE {

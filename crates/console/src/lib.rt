@@ -1,21 +1,68 @@
 // What the programs share: writing to standard output, and looking through bytes. Contracts say only what keeps the programs safe.
+//
+// What is put goes onto a page of the caller's, at a place that the caller holds too. A full page is written and begun again, and a program ends
+// with `close`, so that output goes out in pieces as long as the page. After a write that failed nothing more is written.
 ghost use Prim.Native.Nat.{_<_, _≤_};
 ghost use lib.ListN.{length};
 ghost use Rattle.rules.specs.Limits.{byteValues};
+use libc::STDERR_FILENO;
 use libc::STDOUT_FILENO;
 
-pub fn say(bytes: &[u8]) {
-    io::write_all(STDOUT_FILENO, bytes);
+// The place after a write that failed: beyond any page.
+const LOST: usize = 1 << 60;
+
+// Tells on standard error what went wrong. A program has no exit status, so whoever runs it looks there.
+pub fn complain(what: &[u8]) {
+    io::write_all(STDERR_FILENO, what);
 }
 
-pub fn say_number(n: u64) {
-    io::print_decimal(STDOUT_FILENO, n);
+// Writes the page up to a place; gives the place to go on from.
+fn write_page(page: &[u8], at: usize) -> usize {
+    if page.len() < at {
+        return at;
+    }
+    if io::write_all(STDOUT_FILENO, front(page, at)) {
+        return 0;
+    }
+    complain(b"failed: standard output cannot be written\n");
+    LOST
 }
 
-// A number as the next field of a line.
-pub fn say_field(n: u64) {
-    say(b" ");
-    say_number(n);
+// The place for the next byte, after a full page is written.
+fn place_for(page: &[u8], at: usize) -> usize {
+    if at == page.len() {
+        return write_page(page, at);
+    }
+    at
+}
+
+// One byte; gives the place after it.
+fn put_byte(page: &mut [u8], at: usize, byte: u8) -> usize {
+    let place = place_for(page, at);
+    if place < page.len() {
+        page[place] = byte;
+        return place + 1;
+    }
+    place
+}
+
+// Writes what is left of the page: a program's last word.
+pub fn close(page: &[u8], at: usize) {
+    write_page(page, at);
+}
+
+pub fn put(page: &mut [u8], at: &mut usize, bytes: &[u8]) {
+    let mut i = 0;
+    while i < bytes.len() {
+        *at = put_byte(page, *at, bytes[i]);
+        i += 1;
+    }
+}
+
+pub fn put_number(page: &mut [u8], at: &mut usize, n: u64) {
+    let mut digits = [0u8; 20];
+    let k = io::decimal(n, &mut digits);
+    put(page, at, &digits[..k]);
 }
 
 // A byte as a number.
@@ -26,18 +73,36 @@ pub fn wide(byte: u8) -> u64
 }
 
 // A reading: its entries with commas between them; `-` for none.
-pub fn say_reading(entries: &[u8]) {
+pub fn put_reading(page: &mut [u8], at: &mut usize, entries: &[u8]) {
     if entries.len() == 0 {
-        say(b"-");
+        put(page, at, b"-");
         return;
     }
-    say_number(wide(entries[0]));
+    put_number(page, at, wide(entries[0]));
     let mut i = 1;
     while i < entries.len() {
-        say(b",");
-        say_number(wide(entries[i]));
+        put(page, at, b",");
+        put_number(page, at, wide(entries[i]));
         i += 1;
     }
+}
+
+// Without a page: written at once.
+pub fn say(bytes: &[u8]) {
+    io::write_all(STDOUT_FILENO, bytes);
+}
+
+// A number as the next field of a line.
+pub fn say_field(n: u64) {
+    say(b" ");
+    io::print_decimal(STDOUT_FILENO, n);
+}
+
+pub fn say_reading(entries: &[u8]) {
+    let mut page = [0u8; 1024];
+    let mut at = 0;
+    put_reading(&mut page, &mut at, entries);
+    close(&page, at);
 }
 
 // The first n of some bytes, or all of them where they are fewer.

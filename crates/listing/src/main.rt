@@ -3,10 +3,12 @@
 ghost use Prim.Native.Nat.{_<_};
 ghost use Rattle.rules.specs.Limits.{byteValues};
 ghost use Rattle.satchelram.specs.Packing.{secondRoom};
+use console::close;
+use console::complain;
 use console::front;
-use console::say;
-use console::say_number;
-use console::say_reading;
+use console::put;
+use console::put_number;
+use console::put_reading;
 use console::wide;
 use libc::STDIN_FILENO;
 
@@ -22,8 +24,16 @@ const WORK_ROOM: usize = rules::ROW_SIZE * (rules::NAME_LIMIT + 1);
 // How many readings are listed.
 const MOST: u64 = 1000;
 
+// Bytes written at once.
+const PAGE: usize = 8192;
+
 // Reads of the input at most, so that the program ends; each takes up to 4,096 bytes.
 const TURNS: u64 = 1 << 50;
+
+// What comes after the lines 0 and 1: the input is over, or a read of it has failed.
+const OVER: usize = 2;
+
+const FAILED: usize = 3;
 
 // Where the input stands: which line, and how many bytes of each were kept.
 struct Lines {
@@ -80,17 +90,25 @@ fn take_all(from: Lines, bytes: &[u8], text: &mut [u8], name: &mut [u8]) -> Line
     at
 }
 
+// No more is read; the line says why.
+fn ended(at: Lines, line: usize) -> Lines {
+    Lines {
+        line,
+        text: at.text,
+        name: at.name,
+    }
+}
+
 // One read. At the end of the input both lines are over.
 fn read_some(at: Lines, text: &mut [u8], name: &mut [u8]) -> Lines {
     let mut buffer = io::buffer();
     let got = libc::read(STDIN_FILENO, &mut buffer);
+    if got < 0 {
+        return ended(at, FAILED);
+    }
     let n = io::count(got, &buffer);
     if n == 0 {
-        return Lines {
-            line: 2,
-            text: at.text,
-            name: at.name,
-        };
+        return ended(at, OVER);
     }
     take_all(at, &buffer[..n], text, name)
 }
@@ -134,92 +152,131 @@ fn count_at(sheet: &[u8], at: u64) -> u64
     0
 }
 
-fn say_counts(sheet: &[u8]) {
+fn put_counts(page: &mut [u8], out: &mut usize, sheet: &[u8]) {
     let leaves = count_at(sheet, 1);
-    say(b"leaves ");
-    say_number(leaves);
-    say(b" nodes ");
-    say_number(count_at(sheet, leaves + 2));
-    say(b"\n");
+    put(page, out, b"leaves ");
+    put_number(page, out, leaves);
+    put(page, out, b" nodes ");
+    put_number(page, out, count_at(sheet, leaves + 2));
+    put(page, out, b"\n");
 }
 
 // A reading on a line of its own.
-fn list_reading(mapping: &[u8], n: usize) {
-    say_reading(front(mapping, n));
-    say(b"\n");
+fn list_reading(page: &mut [u8], out: &mut usize, mapping: &[u8], n: usize) {
+    put_reading(page, out, front(mapping, n));
+    put(page, out, b"\n");
 }
 
-fn say_end(count: u64) {
-    say(b"end ");
-    say_number(count);
-    say(b"\n");
+fn put_end(page: &mut [u8], out: &mut usize, count: u64) {
+    put(page, out, b"end ");
+    put_number(page, out, count);
+    put(page, out, b"\n");
+}
+
+fn put_refused(page: &mut [u8], out: &mut usize, n: u64) {
+    put(page, out, b"refused ");
+    put_number(page, out, n);
 }
 
 // Asks for the next reading and lists it, if there is one.
-fn list_next(sheet: &[u8], name: &[u8], mapping: &mut [u8], work: &mut [u8]) -> bool {
+fn list_next(
+    page: &mut [u8],
+    out: &mut usize,
+    sheet: &[u8],
+    name: &[u8],
+    mapping: &mut [u8],
+    work: &mut [u8],
+) -> bool {
     let answer = satchelram::satchelram_next(sheet, name, mapping, work);
     if number(answer) != 0 {
         return false;
     }
-    list_reading(mapping, name.len());
+    list_reading(page, out, mapping, name.len());
     true
 }
 
 // What follows the first reading, which the mapping holds.
-fn list_on(sheet: &[u8], name: &[u8], mapping: &mut [u8], work: &mut [u8]) {
+fn list_on(
+    page: &mut [u8],
+    out: &mut usize,
+    sheet: &[u8],
+    name: &[u8],
+    mapping: &mut [u8],
+    work: &mut [u8],
+) {
     let mut count: u64 = 1;
     while count < MOST {
-        if !list_next(sheet, name, mapping, work) {
-            say_end(count);
+        if !list_next(page, out, sheet, name, mapping, work) {
+            put_end(page, out, count);
             return;
         }
         count += 1;
     }
     let answer = satchelram::satchelram_next(sheet, name, mapping, work);
     if number(answer) == 0 {
-        say(b"more\n");
+        put(page, out, b"more\n");
     } else {
-        say_end(count);
+        put_end(page, out, count);
     }
 }
 
-fn list_all(sheet: &[u8], name: &[u8], mapping: &mut [u8], work: &mut [u8]) {
-    say_counts(sheet);
+fn list_all(
+    page: &mut [u8],
+    out: &mut usize,
+    sheet: &[u8],
+    name: &[u8],
+    mapping: &mut [u8],
+    work: &mut [u8],
+) {
+    put_counts(page, out, sheet);
     let answer = satchelram::satchelram_first(sheet, name, mapping, work);
     if number(answer) == 0 {
-        list_reading(mapping, name.len());
-        list_on(sheet, name, mapping, work);
+        list_reading(page, out, mapping, name.len());
+        list_on(page, out, sheet, name, mapping, work);
     } else if number(answer) == 1 {
-        say_end(0);
+        put_end(page, out, 0);
     } else {
-        say(b"refused ");
-        say_number(number(answer));
-        say(b"\n");
+        put_refused(page, out, number(answer));
+        put(page, out, b"\n");
     }
 }
 
-fn list(text: &[u8], name: &[u8]) {
+fn list(page: &mut [u8], out: &mut usize, text: &[u8], name: &[u8]) {
     let mut sheet = [0u8; SHEET_ROOM];
     let mut mapping = [0u8; NAME_ROOM];
     let mut work = [0u8; WORK_ROOM];
     let answer = satchelram::satchelram_sheet(text, &mut sheet);
     if number(answer) == 0 {
         let size = second(answer) as usize;
-        list_all(front(&sheet, size), name, &mut mapping, &mut work);
+        list_all(
+            page,
+            out,
+            front(&sheet, size),
+            name,
+            &mut mapping,
+            &mut work,
+        );
     } else {
-        say(b"refused ");
-        say_number(number(answer));
-        say(b" at ");
-        say_number(second(answer));
-        say(b"\n");
+        put_refused(page, out, number(answer));
+        put(page, out, b" at ");
+        put_number(page, out, second(answer));
+        put(page, out, b"\n");
     }
 }
 
 fn main() {
+    let mut page = [0u8; PAGE];
     let mut text = [0u8; TEXT_ROOM];
     let mut name = [0u8; NAME_ROOM];
     let at = read_lines(&mut text, &mut name);
+    let line = at.line;
     let kept = at.text;
     let named = at.name;
-    list(front(&text, kept), front(&name, named));
+    if line == FAILED {
+        complain(b"failed: standard input cannot be read\n");
+        return;
+    }
+    let mut out = 0;
+    list(&mut page, &mut out, front(&text, kept), front(&name, named));
+    close(&page, out);
 }

@@ -6,6 +6,7 @@ ghost use Rattle.text.specs.Outcome.{SheetCall};
 ghost use Rattle.reader.specs.Outcome.{AcceptCall, FirstCall, NextCall, CheckCall};
 ghost use Rattle.satchelram.specs.Packing.{packed, numberRoom, secondRoom};
 ghost use Rattle.satchelram.specs.Exported.{sheetEndIn, endIn, Exports};
+ghost use Rattle.satchelram.specs.Version.{version};
 
 // Room for the number, and for the second after it (docs/PACKING.md).
 pub const NUMBER_ROOM: u64 = 256;
@@ -76,4 +77,12 @@ pub extern "C" fn satchelram_check(
     ensures { λ r. ⌜ Exports (CheckCall (now (sheet .entry)) (now (name .entry)) (now (mapping .entry)) (now (work .entry)) (endIn r (now (mapping .entry)) (now (work .exit)))) r ⌝ }
 {
     pack(reader::number(reader::check(sheet, name, mapping, work)), 0)
+}
+
+// The version of this library, to be compared with the header's.
+#[no_mangle]
+pub extern "C" fn satchelram_version() -> u64
+    ensures { λ r. ⌜ r ≡ version ⌝ }
+{
+    1000
 }

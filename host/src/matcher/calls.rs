@@ -31,7 +31,7 @@ pub fn work_needed(name_length: usize) -> usize {
 pub fn sheet(text: &[u8], sheet: &[u8]) -> Outcome {
     let (number, second, made) = match text::sheet_of(text) {
         Err(refusal) => (refusal.number, refusal.place, Vec::new()),
-        Ok(made) if made.len() > sheet.len() => (SHEET_ROOM, made.len(), Vec::new()),
+        Ok(made) if made.len() > sheet.len() => (SHEET_SHORT, made.len(), Vec::new()),
         Ok(made) => (DONE, made.len(), made),
     };
     Outcome {

@@ -44,7 +44,7 @@ pub const OPEN_UNCLOSED: u8 = 14;
 pub const OPEN_DEEP: u8 = 15;
 pub const LEAVES_MANY: u8 = 16;
 pub const NODES_MANY: u8 = 17;
-pub const SHEET_ROOM: u8 = 18;
+pub const SHEET_SHORT: u8 = 18;
 pub const REPEAT_FAULT: u8 = 19;
 
 // Refusals of a sheet.

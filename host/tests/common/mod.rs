@@ -20,7 +20,7 @@ pub const GARBAGE: u8 = 0xEE;
 /// Bytes that every buffer has beyond what is asked of it.
 pub const SPARE: usize = 5;
 /// Room for any sheet: 3 + 120 + 255.
-pub const SHEET_ROOM: usize = 378;
+pub const SHEET_MOST: usize = 378;
 
 pub fn garbage(length: usize) -> Vec<u8> {
     vec![GARBAGE; length]
@@ -39,20 +39,20 @@ pub fn work_searched(name: &[u8]) -> Vec<u8> {
 
 /// The sheet of a text that must be made.
 pub fn sheet_of(text: &[u8]) -> Vec<u8> {
-    let outcome = calls::sheet(text, &garbage(SHEET_ROOM + SPARE));
+    let outcome = calls::sheet(text, &garbage(SHEET_MOST + SPARE));
     assert_eq!(outcome.number, 0, "{:?} is refused", shown(text));
     let (sheet, rest) = outcome.sheet.split_at(outcome.second);
     assert!(rest.iter().all(|&byte| byte == 0));
-    assert_eq!(outcome.sheet.len(), SHEET_ROOM + SPARE);
+    assert_eq!(outcome.sheet.len(), SHEET_MOST + SPARE);
     sheet.to_vec()
 }
 
 /// The text must be refused so, with the whole sheet buffer zero.
 pub fn assert_refused(text: &[u8], number: u8, place: usize) {
-    let outcome = calls::sheet(text, &garbage(SHEET_ROOM + SPARE));
+    let outcome = calls::sheet(text, &garbage(SHEET_MOST + SPARE));
     let answer = (outcome.number, outcome.second);
     assert_eq!(answer, (number, place), "{:?}", shown(text));
-    assert_eq!(outcome.sheet, vec![0; SHEET_ROOM + SPARE]);
+    assert_eq!(outcome.sheet, vec![0; SHEET_MOST + SPARE]);
 }
 
 /// The node bytes of the sheet of a text.
