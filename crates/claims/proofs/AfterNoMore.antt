@@ -10,7 +10,7 @@ use Rattle.rules.specs.Numbers.{no, noReading}
 use Rattle.rules.specs.Grounds.{firstOf}
 use Rattle.rules.proofs.Grounds.{some-eq}
 use Rattle.mapping.specs.Entries.{entrySize, given}
-use Rattle.mapping.proofs.Entries.{entries-wiped}
+use Rattle.mapping.proofs.Entries.{entries-length, entries-wiped}
 use Rattle.language.specs.Tree.{size}
 use Rattle.language.specs.Reading.{Pattern, Language, Reading}
 use Rattle.language.specs.Order.{Above}
@@ -57,10 +57,17 @@ none-above P (p ∷ v) a = a .has .spells
 reads-empty : (P : Pattern) → Language P [] → Reading P [] []
 reads-empty P d = let (w, r) = (in-language P []) .0 d in rw (only-empty P w r) at r
 
+nothing-given : (mapping : List ℕ) → given [] mapping ≡ []
+nothing-given mapping = go (given [] mapping) (entries-length 0 mapping (omega arith))
+  where
+    go : (w : List ℕ) → length w ≡ 0 → w ≡ []
+    go [] e = refl
+    go (p ∷ w) e = absurd (omega arith)
+
 at-empty : (sheet mapping work : List ℕ) (P : Pattern) (s : End) → standsFor sheet ≡ some P → Language P [] → NextWent sheet [] mapping work s → s .number ≡ no
-at-empty sheet mapping work P s e d (foundNext {P = Q} {r = r} x g h) = absurd (none-above Q r (h .has))
+at-empty sheet mapping work P s e d (foundNext {P = Q} {r = r} x g h) = absurd (none-above Q r (rw (nothing-given mapping) at (h .has)))
 at-empty sheet mapping work P s e d (noMore x g n) = refl
-at-empty sheet mapping work P s e d (unread x n) = absurd (n (rw (some-eq (sym e ∙ x)) at (reads-empty P d)))
+at-empty sheet mapping work P s e d (unread x n) = absurd (n (rw (nothing-given mapping) (rw (some-eq (sym e ∙ x)) at (reads-empty P d))))
 
 pub after-no-more : AfterNoMore
 after-no-more =
