@@ -1,7 +1,7 @@
 use borrow.Author.Needs.{needs}
-use Rattle.emission.proofs.Copies.{option-sure, option-free}
-use Rattle.emission.proofs.option.Statement.{statement}
-use Rattle.emission.proofs.option.Tie as tie
+use Rattle.repeats.proofs.Copies.{copy-sure, copy-free}
+use Rattle.repeats.proofs.option.Statement.{statement}
+use Rattle.repeats.proofs.option.Tie as tie
 
 emit-requires : tie.Need-emit-requires
 emit-requires c κs = search needs
@@ -16,7 +16,7 @@ returns : tie.Need-returns
 returns c =
     let emit = c .before .before .before .emit in
     let args = c .before .before .before .before .before .before .args in
-    let g = args in option-sure (g .n) (g .nodes .now) (emit .last .0) (g .sure) ((c .if1) .taken) (emit .ensures)
+    λ b. copy-sure (args .n) (args .nodes .now) (emit .last .0) b (c .if1 .taken) (emit .ensures)
 
 add-emit : tie.Need-add-emit
 add-emit c = search needs
@@ -38,12 +38,12 @@ same-length-2 c = search needs
 
 returns-2 : tie.Need-returns-2
 returns-2 c =
-    let emit3 = c .before .before .emit3 in
-    let emit2 = c .before .before .before .before .before .before .emit2 in
-    let if1 = c .before .before .before .before .before .before .before .before .if1 in
-    let emit = c .before .before .before .before .before .before .before .before .before .before .before .emit in
-    let args = c .before .before .before .before .before .before .before .before .before .before .before .before .before .before .args in
-    let g = args in option-free (g .n) (g .nodes .now) (emit .last .0) (emit2 .last .0) (emit3 .last .0) (g .sure) (if1 .left) (emit .ensures) (emit2 .ensures) (emit3 .ensures)
+    let third = c .before .before .emit3 in
+    let second = c .before .before .before .before .before .before .emit2 in
+    let free = c .before .before .before .before .before .before .before .before in
+    let first = free .before .before .before .emit in
+    let args = free .before .before .before .before .before .before .args in
+    λ b. copy-free (args .n) (args .nodes .now) (first .last .0) b (second .last .0) (third .last .0) (free .if1 .left) (first .ensures) (second .ensures) (third .ensures)
 
 pub option-spec : {M : Type 1} → statement M
 option-spec =
