@@ -14,11 +14,12 @@ use borrow.Author.Tests.{eqb-true}
 use Rattle.lexer.specs.Bytes.{bar, asterisk, leftParenthesis, rightParenthesis}
 use Rattle.lexer.specs.Tokens.{Token, Placed, placed, aBar, aStar, anOpen, aClose, aFault, tok, wrong, first, starts, tokenOf, lex, tokensFrom}
 
+-- a function of the bytes from a place on sees the byte there first
+pub front-in : {A : Type 0} (f : List ℕ → A) (t : List ℕ) (at : ℕ) → at < length t → f (getD t at 0 ∷ drop (at + 1) t) ≡ f (drop at t)
+front-in f t at h = rw (add-one at) (ap f (sym (drop-cons t at 0 h)))
+
 -- a test that no bytes pass, on the bytes from a place on
 module _ (f : List ℕ → Bool) (t : List ℕ) (at : ℕ) where
-  pub front-in : at < length t → f (getD t at 0 ∷ drop (at + 1) t) ≡ f (drop at t)
-  front-in h = rw (add-one at) (ap f (sym (drop-cons t at 0 h)))
-
   module _ (n : f [] ≡ false) where
     pub front-out : length t ≤ at → false ≡ f (drop at t)
     front-out h = rw (drop-of-length-le t {i = at} h) (sym n)

@@ -1,13 +1,14 @@
 -- The places of tokens lie within the text.
-use mathlib.Core.Bool.{Bool, true, false, cond, _||_}
+use mathlib.Core.Bool.{Bool, true, false, cond}
 use mathlib.Core.List.{List, [], _∷_}
 use Prim.Native.Nat.{ℕ, zero, suc, _+_, _≤_}
 use native.Mathlib.Omega.{arith}
 use lib.Dec.{eqb}
 use lib.ListN.{length}
-use Rattle.rules.specs.Limits.{outside}
-use Rattle.lexer.specs.Bytes.{bar, asterisk, leftParenthesis, rightParenthesis, backslash, leftBrace, rightBrace, isMark}
-use Rattle.lexer.specs.Tokens.{Token, Placed, placed, Repeat, noRepeat, badRepeat, repeat, repeatAt, One, tok, wrong, literalOf, escapedOf, tokenOf, first, lex, tokensFrom}
+use Rattle.lexer.specs.declared.Kind.{Kind}
+use Rattle.lexer.specs.declared.Kind.the-variants.{Plain, Mark, Refused}
+use Rattle.lexer.specs.Bytes.{bar, asterisk, leftParenthesis, rightParenthesis, backslash, kindOf}
+use Rattle.lexer.specs.Tokens.{Token, Placed, placed, Repeat, noRepeat, badRepeat, repeat, repeatAt, One, tok, wrong, literalOf, escapedBy, escapedOf, markOf, tokenBy, tokenOf, first, lex, tokensFrom}
 
 -- every place is at most e
 abbrev pub Inside : ℕ → List Placed → Type 0
@@ -34,13 +35,25 @@ literal-near n b o (repeat x y k) h = token
 
 escaped-near : (s : List ℕ) → Near (length s + 1) (escapedOf s)
 escaped-near [] = here 1
-escaped-near (b ∷ s) = pick (isMark b) (literal-near (length (b ∷ s) + 1) b 1 (repeatAt s) (omega arith)) (here (length (b ∷ s) + 1))
+escaped-near (b ∷ s) = go (kindOf b)
+  where
+    go : (k : Kind) → Near (length (b ∷ s) + 1) (escapedBy k b s)
+    go Plain = here (length (b ∷ s) + 1)
+    go Mark = literal-near (length (b ∷ s) + 1) b 1 (repeatAt s) (omega arith)
+    go Refused = here (length (b ∷ s) + 1)
+
+mark-near : (b : ℕ) (s : List ℕ) → Near (length s + 1) (markOf b s)
+mark-near b s =
+    pick (eqb b bar) token (pick (eqb b asterisk) token (pick (eqb b leftParenthesis) token (pick (eqb b rightParenthesis) token
+    (pick (eqb b backslash) (escaped-near s) (here (length s + 1))))))
 
 token-near : (b : ℕ) (s : List ℕ) → Near (length s + 1) (tokenOf b s)
-token-near b s =
-    pick (eqb b bar) token (pick (eqb b asterisk) token (pick (eqb b leftParenthesis) token (pick (eqb b rightParenthesis) token
-    (pick (eqb b backslash) (escaped-near s) (pick (eqb b leftBrace || eqb b rightBrace) (here (length s + 1))
-    (pick (outside b) (here (length s + 1)) (literal-near (length s + 1) b 0 (repeatAt s) (omega arith))))))))
+token-near b s = go (kindOf b)
+  where
+    go : (k : Kind) → Near (length s + 1) (tokenBy k b s)
+    go Plain = literal-near (length s + 1) b 0 (repeatAt s) (omega arith)
+    go Mark = mark-near b s
+    go Refused = here (length s + 1)
 
 lex-inside : (e i skip : ℕ) (s : List ℕ) → i + length s ≤ e → Inside e (lex i skip s)
 lex-inside e i skip [] h = tt

@@ -1,5 +1,6 @@
-pub mod Literals
-pub mod Inside
 pub mod Front
 pub mod Repeats
 pub mod Units
+pub mod Literals
+pub mod Inside
+pub mod Walks

@@ -1,17 +1,19 @@
 -- The literals of tokens are bytes that may be written, a repeat's first number is at most its second, and a fault is 11 or 19.
-use mathlib.Core.Path.{_≡_, refl}
+use mathlib.Core.Path.{_≡_, refl, sym, _∙_}
 use mathlib.Core.Logic.{_⊎_, inl, inr}
-use mathlib.Core.Bool.{Bool, true, false, cond, _&&_, _||_}
+use mathlib.Core.Bool.{Bool, true, false, cond, _&&_}
 use mathlib.Core.List.{List, [], _∷_}
 use Prim.Native.Nat.{ℕ, zero, suc, _+_, _≤_}
 use native.Mathlib.Omega.{arith}
 use lib.Dec.{eqb, leb}
 use lib.ListN.{drop}
-use borrow.Author.Tests.{leb-true, eqb-true}
+use borrow.Author.Tests.{leb-true}
 use Rattle.rules.specs.Limits.{outside}
 use Rattle.rules.specs.Numbers.{textByte, repeatFault}
-use Rattle.lexer.specs.Bytes.{bar, asterisk, leftParenthesis, rightParenthesis, backslash, leftBrace, rightBrace, comma, isMark}
-use Rattle.lexer.specs.Tokens.{Token, aLiteral, aBar, aStar, anOpen, aClose, aFault, Placed, placed, starts, Number, digits, noNumber, numberAt, Repeat, noRepeat, badRepeat, repeat, closed, counted, repeatAt, One, tok, wrong, literalOf, escapedOf, tokenOf, first, lex, tokensFrom}
+use Rattle.lexer.specs.declared.Kind.{Kind}
+use Rattle.lexer.specs.declared.Kind.the-variants.{Plain, Mark, Refused}
+use Rattle.lexer.specs.Bytes.{bar, asterisk, leftParenthesis, rightParenthesis, backslash, leftBrace, rightBrace, comma, kindOf}
+use Rattle.lexer.specs.Tokens.{Token, aLiteral, aBar, aStar, anOpen, aClose, aFault, Placed, placed, starts, Number, digits, noNumber, numberAt, Repeat, noRepeat, badRepeat, repeat, closed, counted, repeatAt, One, tok, wrong, literalOf, escapedBy, escapedOf, markOf, tokenBy, tokenOf, first, lex, tokensFrom}
 
 -- a literal is within the range of literal bytes, and repeated rightly
 abbrev pub Literal : Token → Type 0
@@ -26,19 +28,19 @@ abbrev pub Writable : List Placed → Type 0
 Writable [] = Unit {0}
 Writable (placed i t ∷ ps) = Literal t × Writable ps
 
--- a mark is within the range
-within : (b c : ℕ) → eqb b c ≡ true → outside c ≡ false → outside b ≡ false
-within b c e h = rw (eqb-true b c e) h
-
-mark-inside : (b : ℕ) → isMark b ≡ true → outside b ≡ false
-mark-inside b e =
-    or-cases (eqb b bar) _ e (λ h. within b bar h refl) (λ e. or-cases (eqb b asterisk) _ e (λ h. within b asterisk h refl)
-    (λ e. or-cases (eqb b leftParenthesis) _ e (λ h. within b leftParenthesis h refl) (λ e. or-cases (eqb b rightParenthesis) _ e (λ h. within b rightParenthesis h refl)
-    (λ e. or-cases (eqb b backslash) _ e (λ h. within b backslash h refl) (λ e. or-cases (eqb b leftBrace) (eqb b rightBrace) e (λ h. within b leftBrace h refl) (λ h. within b rightBrace h refl))))))
+-- a byte that is not refused is within the range
+within : (b : ℕ) (k : Kind) → kindOf b ≡ k → (k ≡ Refused → ⊥) → outside b ≡ false
+within b k e n = go (outside b) refl
   where
-    or-cases : {A : Type 0} (a c : Bool) → (a || c) ≡ true → (a ≡ true → A) → (c ≡ true → A) → A
-    or-cases true c e f g = f refl
-    or-cases false c e f g = g e
+    go : (c : Bool) → outside b ≡ c → outside b ≡ false
+    go true o = absurd (n (sym e ∙ rw o refl))
+    go false o = o
+
+plain-within : (b : ℕ) → kindOf b ≡ Plain → outside b ≡ false
+plain-within b e = within b Plain e (λ q. let z : _≡_ {A = ℕ} 0 1 = cc in omega arith)
+
+mark-within : (b : ℕ) → kindOf b ≡ Mark → outside b ≡ false
+mark-within b e = within b Mark e (λ q. let z : _≡_ {A = ℕ} 0 1 = cc in omega arith)
 
 -- a repeat's numbers
 abbrev Rising : Repeat → Type 0
@@ -79,25 +81,30 @@ literal-right b o (repeat x y n) h r = token {t = aLiteral b x y} (h, r)
 
 escaped-right : (s : List ℕ) → Right (escapedOf s)
 escaped-right [] = fault (inl refl)
-escaped-right (b ∷ s) = go (isMark b) refl
+escaped-right (b ∷ s) = go (kindOf b) refl
   where
-    go : (c : Bool) → isMark b ≡ c → Right (cond c (literalOf b 1 (repeatAt s)) (wrong textByte 0))
-    go true e = literal-right b 1 (repeatAt s) (mark-inside b e) (repeat-rising s)
-    go false e = fault (inl refl)
+    go : (k : Kind) → kindOf b ≡ k → Right (escapedBy k b s)
+    go Plain e = fault (inl refl)
+    go Mark e = literal-right b 1 (repeatAt s) (mark-within b e) (repeat-rising s)
+    go Refused e = fault (inl refl)
 
-token-right : (b : ℕ) (s : List ℕ) → Right (tokenOf b s)
-token-right b s =
+mark-right : (b : ℕ) (s : List ℕ) → Right (markOf b s)
+mark-right b s =
     pick (eqb b bar) (token {t = aBar} tt) (pick (eqb b asterisk) (token {t = aStar} tt)
     (pick (eqb b leftParenthesis) (token {t = anOpen} tt) (pick (eqb b rightParenthesis) (token {t = aClose} tt)
-    (pick (eqb b backslash) (escaped-right s) (pick (eqb b leftBrace || eqb b rightBrace) (fault (inr refl)) (plain (outside b) refl))))))
+    (pick (eqb b backslash) (escaped-right s) (fault (inr refl))))))
   where
     pick : (c : Bool) {x y : One} → Right x → Right y → Right (cond c x y)
     pick true p q = p
     pick false p q = q
 
-    plain : (c : Bool) → outside b ≡ c → Right (cond c (wrong textByte 0) (literalOf b 0 (repeatAt s)))
-    plain true e = fault (inl refl)
-    plain false e = literal-right b 0 (repeatAt s) e (repeat-rising s)
+token-right : (b : ℕ) (s : List ℕ) → Right (tokenOf b s)
+token-right b s = go (kindOf b) refl
+  where
+    go : (k : Kind) → kindOf b ≡ k → Right (tokenBy k b s)
+    go Plain e = literal-right b 0 (repeatAt s) (plain-within b e) (repeat-rising s)
+    go Mark e = mark-right b s
+    go Refused e = fault (inl refl)
 
 lex-right : (i skip : ℕ) (s : List ℕ) → Writable (lex i skip s)
 lex-right i skip [] = tt

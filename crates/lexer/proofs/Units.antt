@@ -1,25 +1,24 @@
 -- From the byte where a unit other than a parenthesis starts to its token: one law for each answer of the functions that read it.
 use mathlib.Core.Path.{_≡_, refl, ap, sym, _∙_}
-use mathlib.Core.Logic.{by-cases}
-use mathlib.Core.Bool.{Bool, true, false, cond, _&&_, _||_, not}
-use mathlib.Core.List.{List, _∷_}
+use mathlib.Core.Bool.{Bool, true, false, true≢false, _&&_, not}
+use mathlib.Core.List.{List, [], _∷_}
 use Prim.Native.Nat.{ℕ, _+_, _<_, _≤_}
 use native.Mathlib.Nat.{add-zero}
-use native.Mathlib.Decide.{decLt}
 use native.Mathlib.Omega.{arith}
-use lib.ListN.{length, getD, drop}
-use lib.Seq.{drop-drop, getD-drop}
-use lib.Dec.{ltb, leb, eqb}
-use borrow.Author.Tests.{lt-ltb, le-ltb, le-leb, lt-leb, ne-eqb, not-true}
-use Rattle.rules.specs.Limits.{lowestByte, highestByte, outside}
+use lib.Dec.{eqb}
+use lib.ListN.{length, getD, drop, drop-of-length-le}
+use borrow.Author.Tests.{ne-eqb, not-true}
 use Rattle.rules.specs.Numbers.{textByte, repeatFault}
-use Rattle.rules.proofs.Truth.{and-true-left, and-true-right, or-false-left, or-false-right}
+use Rattle.rules.specs.Fault.{at}
+use Rattle.rules.proofs.Truth.{and-true-left, and-true-right}
+use Rattle.lexer.specs.declared.Kind.{Kind}
+use Rattle.lexer.specs.declared.Kind.the-variants.{Plain, Mark, Refused}
 use Rattle.lexer.specs.declared.Literal.{Literal}
-use Rattle.lexer.specs.declared.Literal.the-variants.{Of}
-use Rattle.lexer.specs.Bytes.{bar, asterisk, leftParenthesis, rightParenthesis, backslash, leftBrace, rightBrace, isMark}
-use Rattle.lexer.specs.Tokens.{Repeat, noRepeat, badRepeat, repeat, repeatAt, aLiteral, placed, wrong, literalOf, starts, markAt, tokenOf, tokensFrom}
-use Rattle.lexer.specs.Places.{startsUnit, unitAt, isPlain, plainAt, refusedAs, literalWith, LiteralFits, LiteralIs}
-use Rattle.lexer.proofs.Front.{front-in, front-inside, tokens-token, tokens-wrong}
+use Rattle.lexer.specs.declared.Literal.the-variants.{Of, Fault}
+use Rattle.lexer.specs.Bytes.{bar, asterisk, leftParenthesis, rightParenthesis, backslash, leftBrace, kindOf}
+use Rattle.lexer.specs.Tokens.{Repeat, noRepeat, badRepeat, repeat, repeatAt, aLiteral, placed, One, wrong, literalOf, escapedBy, escapedOf, starts, tokenOf, tokensFrom}
+use Rattle.lexer.specs.Places.{startsUnit, unitAt, isPlain, plainAt, literalWith, LiteralFits, LiteralIs}
+use Rattle.lexer.proofs.Front.{front-in, front-inside, byte-inside, byte-is, tokens-token, tokens-wrong}
 
 -- the byte is none of the marks that are tokens by themselves
 record Other (b : ℕ) : Type 0 where
@@ -38,105 +37,89 @@ other b u o =
       no-close = not-true (eqb b rightParenthesis) (and-true-right (not (eqb b asterisk)) (not (eqb b rightParenthesis)) r);
     }
 
-module _ (t : List ℕ) (at : ℕ) (u : unitAt (drop at t) ≡ true) (p : starts (drop at t) leftParenthesis ≡ false) where
-  pub unit-inside : at < length t
-  unit-inside = front-inside unitAt t at refl u
+module _ (t : List ℕ) (here : ℕ) where
+  module _ (h : here < length t) where
+    -- what `repeated` gives, as a token. b: the literal's byte; o: how many bytes after the first it has
+    taken : (b o : ℕ) (r : Repeat) (q : Literal) → q ≡ literalWith b (here + 1 + o) r → LiteralFits (length t) (here + 1 + o) q
+        → tokenOf (getD t here 0) (drop (here + 1) t) ≡ literalOf b o r → LiteralIs t here q
+    taken b o noRepeat q e f g =
+        let w : LiteralFits (length t) (here + 1 + o) (Of b 1 1 (here + 1 + o)) = rw e at f in
+        rw e (record { token = tokens-token t here h (aLiteral b 1 1) o g; further = omega arith; inside = w .3; least = omega arith; most = omega arith })
+    taken b o badRepeat q e f g =
+        let z : here + (o + 1) ≡ here + 1 + o = omega arith in
+        rw e (rw z at (tokens-wrong t here h repeatFault (o + 1) g))
+    taken b o (repeat x y n) q e f g =
+        let w : LiteralFits (length t) (here + 1 + o) (Of b x y (here + 1 + o + n)) = rw e at f in
+        let z : here + 1 + (o + n) ≡ here + 1 + o + n = omega arith in
+        rw e (record { token = rw z at (tokens-token t here h (aLiteral b x y) (o + n) g); further = omega (arith, w .2); inside = w .3; least = w .0; most = w .1 })
 
-  here : Other (getD t at 0)
-  here =
-      other (getD t at 0) (front-in unitAt t at unit-inside ∙ u)
-      (front-in (λ (s : List ℕ). starts s leftParenthesis) t at unit-inside ∙ p)
+    fault-here : (k : ℕ) → tokenOf (getD t here 0) (drop (here + 1) t) ≡ wrong k 0 → LiteralIs t here (Fault (at here k))
+    fault-here k e = rw (add-zero here) at (tokens-wrong t here h k 0 e)
 
-  -- what `repeated` gives, as a token. b: the literal's byte; o: how many bytes after the first it has
-  taken : (b o : ℕ) (r : Repeat) (q : Literal) → q ≡ literalWith b (at + 1 + o) r → LiteralFits (length t) (at + 1 + o) q
-      → tokenOf (getD t at 0) (drop (at + 1) t) ≡ literalOf b o r → LiteralIs t at q
-  taken b o noRepeat q e f g =
-      let w : LiteralFits (length t) (at + 1 + o) (Of b 1 1 (at + 1 + o)) = rw e at f in
-      rw e (record { token = tokens-token t at unit-inside (aLiteral b 1 1) o g; further = omega arith; inside = w .3; least = omega arith; most = omega arith })
-  taken b o badRepeat q e f g =
-      let z : at + (o + 1) ≡ at + 1 + o = omega arith in
-      rw e (rw z at (tokens-wrong t at unit-inside repeatFault (o + 1) g))
-  taken b o (repeat x y n) q e f g =
-      let w : LiteralFits (length t) (at + 1 + o) (Of b x y (at + 1 + o + n)) = rw e at f in
-      let z : at + 1 + (o + n) ≡ at + 1 + o + n = omega arith in
-      rw e (record { token = rw z at (tokens-token t at unit-inside (aLiteral b x y) (o + n) g); further = omega (arith, w .2); inside = w .3; least = w .0; most = w .1 })
+    pub literal-plain : (q : Literal) → kindOf (getD t here 0) ≡ Plain → q ≡ literalWith (getD t here 0) (here + 1) (repeatAt (drop (here + 1) t))
+        → LiteralFits (length t) (here + 1) q → LiteralIs t here q
+    literal-plain q k e f =
+        let z : here + 1 ≡ here + 1 + 0 = omega arith in
+        taken (getD t here 0) 0 (repeatAt (drop (here + 1) t)) q (e ∙ rw (← z) refl) (rw (← z) f) (rw k refl)
 
-  pub literal-escaped : (q : Literal) → getD t at 0 ≡ backslash → markAt (drop (at + 1) t) ≡ true
-      → q ≡ literalWith (getD t (at + 1) 0) (at + 2) (repeatAt (drop (at + 2) t)) → LiteralFits (length t) (at + 2) q → LiteralIs t at q
-  literal-escaped q c m e f =
-      let z : at + 2 ≡ at + 1 + 1 = omega arith in
-      let y : at + 1 + 0 ≡ at + 1 = omega arith in
-      taken (getD t (at + 1) 0) 1 (repeatAt (drop (at + 1 + 1) t)) q (rw z at e) (rw z at f)
-      (rw (c, m, getD-drop (at + 1) t 0 0, y, drop-drop 1 (at + 1) t) refl)
+    pub literal-refused : kindOf (getD t here 0) ≡ Refused → LiteralIs t here (Fault (at here textByte))
+    literal-refused k = fault-here textByte (rw k refl)
 
-  fault-here : (k : ℕ) → tokenOf (getD t at 0) (drop (at + 1) t) ≡ wrong k 0 → LiteralIs t at (refusedAs k at)
-  fault-here k e = rw (add-zero at) at (tokens-wrong t at unit-inside k 0 e)
+  -- a brace: no mark that is a token by itself, and no backslash
+  module _ (u : unitAt (drop here t) ≡ true) where
+    pub unit-inside : here < length t
+    unit-inside = front-inside unitAt t here refl u
 
-  pub literal-lone : getD t at 0 ≡ backslash → markAt (drop (at + 1) t) ≡ false → LiteralIs t at (refusedAs textByte at)
-  literal-lone c m = fault-here textByte (rw (c, m) refl)
+    pub literal-brace : starts (drop here t) leftParenthesis ≡ false → kindOf (getD t here 0) ≡ Mark → (getD t here 0 ≡ backslash → ⊥) → LiteralIs t here (Fault (at here repeatFault))
+    literal-brace p k n =
+        let o =
+            other (getD t here 0) (front-in unitAt t here unit-inside ∙ u)
+            (front-in (λ (s : List ℕ). starts s leftParenthesis) t here unit-inside ∙ p) in
+        fault-here unit-inside repeatFault (rw (k, o .no-bar, o .no-star, o .no-open, o .no-close, ne-eqb (getD t here 0) backslash n) refl)
 
-  pub literal-brace : getD t at 0 ≡ leftBrace → LiteralIs t at (refusedAs repeatFault at)
-  literal-brace d = fault-here repeatFault (rw d refl)
+  -- after a backslash
+  module _ (e : starts (drop here t) backslash ≡ true) where
+    after : tokenOf (getD t here 0) (drop (here + 1) t) ≡ escapedOf (drop (here + 1) t)
+    after = rw (byte-is t here backslash e) refl
 
-  pub literal-unbrace : getD t at 0 ≡ rightBrace → LiteralIs t at (refusedAs repeatFault at)
-  literal-unbrace d = fault-here repeatFault (rw d refl)
+    pub escaped-end : length t ≤ here + 1 → LiteralIs t here (Fault (at here textByte))
+    escaped-end h = fault-here (byte-inside t here backslash e) textByte (after ∙ ap escapedOf (drop-of-length-le t {i = here + 1} h))
 
-  module _ (c : getD t at 0 ≡ backslash → ⊥) (d : getD t at 0 ≡ leftBrace → ⊥) (e : getD t at 0 ≡ rightBrace → ⊥) where
-    -- past the marks
-    past : {v w : Bool} → ltb (getD t at 0) lowestByte ≡ v → ltb highestByte (getD t at 0) ≡ w
-        → tokenOf (getD t at 0) (drop (at + 1) t) ≡ cond (v || w) (wrong textByte 0) (literalOf (getD t at 0) 0 (repeatAt (drop (at + 1) t)))
-    past f g =
-        rw (here .no-bar, here .no-star, here .no-open, here .no-close, ne-eqb (getD t at 0) backslash c, ne-eqb (getD t at 0) leftBrace d, ne-eqb (getD t at 0) rightBrace e, f, g) refl
+    module _ (h : here + 1 < length t) {k : Kind} (m : kindOf (getD t (here + 1) 0) ≡ k) where
+      byKind : tokenOf (getD t here 0) (drop (here + 1) t) ≡ escapedBy k (getD t (here + 1) 0) (drop (here + 1 + 1) t)
+      byKind = after ∙ sym (front-in escapedOf t (here + 1) h) ∙ rw m refl
 
-    pub literal-low : getD t at 0 < lowestByte → LiteralIs t at (refusedAs textByte at)
-    literal-low f = fault-here textByte (past {w = ltb highestByte (getD t at 0)} (lt-ltb (getD t at 0) lowestByte f) refl)
+      pub escaped-mark : k ≡ Mark → (q : Literal) → q ≡ literalWith (getD t (here + 1) 0) (here + 2) (repeatAt (drop (here + 2) t)) → LiteralFits (length t) (here + 2) q → LiteralIs t here q
+      escaped-mark c q w f =
+          let z : here + 2 ≡ here + 1 + 1 = omega arith in
+          taken (byte-inside t here backslash e) (getD t (here + 1) 0) 1 (repeatAt (drop (here + 1 + 1) t)) q (rw z at w) (rw z at f) (byKind ∙ rw c refl)
 
-    module _ (f : lowestByte ≤ getD t at 0) where
-      pub literal-high : highestByte < getD t at 0 → LiteralIs t at (refusedAs textByte at)
-      literal-high g = fault-here textByte (past (le-ltb (getD t at 0) lowestByte f) (lt-ltb highestByte (getD t at 0) g))
+      pub escaped-plain : k ≡ Plain → LiteralIs t here (Fault (at here textByte))
+      escaped-plain c = fault-here (byte-inside t here backslash e) textByte (byKind ∙ rw c refl)
 
-      pub literal-plain : (q : Literal) → getD t at 0 ≤ highestByte → q ≡ literalWith (getD t at 0) (at + 1) (repeatAt (drop (at + 1) t))
-          → LiteralFits (length t) (at + 1) q → LiteralIs t at q
-      literal-plain q g w v =
-          let z : at + 1 ≡ at + 1 + 0 = omega arith in
-          taken (getD t at 0) 0 (repeatAt (drop (at + 1) t)) q (w ∙ rw (← z) refl) (rw (← z) v)
-          (past (le-ltb (getD t at 0) lowestByte f) (le-ltb highestByte (getD t at 0) g))
+      pub escaped-refused : k ≡ Refused → LiteralIs t here (Fault (at here textByte))
+      escaped-refused c = fault-here (byte-inside t here backslash e) textByte (byKind ∙ rw c refl)
 
 -- the short way: no mark, and no repeat
+module _ (t : List ℕ) (here : ℕ) (h : here < length t) where
+  pub plain-by : {k : Kind} → kindOf (getD t here 0) ≡ k → (isPlain k && not (starts (drop (here + 1) t) leftBrace)) ≡ plainAt (drop here t)
+  plain-by e = rw (← e) (front-in plainAt t here h)
 
-pub leb-not-ltb : (b c : ℕ) → leb b c ≡ not (ltb c b)
-leb-not-ltb b c =
-    by-cases (decLt c b)
-    (λ (h : c < b). lt-leb b c h ∙ sym (ap not (lt-ltb c b h)))
-    (λ (h : ¬ (c < b)). let g : b ≤ c = omega arith in le-leb b c g ∙ sym (ap not (le-ltb c b g)))
+module _ (t : List ℕ) (here : ℕ) (p : plainAt (drop here t) ≡ true) where
+  pub plain-inside : here < length t
+  plain-inside = front-inside plainAt t here refl p
 
-module _ (t : List ℕ) (at : ℕ) (h : at < length t) where
-  pub plain-in : isPlain (getD t at 0) ≡ true → not (starts (drop (at + 1) t) leftBrace) ≡ plainAt (drop at t)
-  plain-in e = sym (ap (λ (v : Bool). v && not (starts (drop (at + 1) t) leftBrace)) e) ∙ front-in plainAt t at h
-
-  pub plain-not : isPlain (getD t at 0) ≡ false → false ≡ plainAt (drop at t)
-  plain-not e = sym (ap (λ (v : Bool). v && not (starts (drop (at + 1) t) leftBrace)) e) ∙ front-in plainAt t at h
-
-module _ (t : List ℕ) (at : ℕ) (p : plainAt (drop at t) ≡ true) where
-  pub plain-inside : at < length t
-  plain-inside = front-inside plainAt t at refl p
-
-  pub tokens-plain : tokensFrom t at ≡ placed at (aLiteral (getD t at 0) 1 1) ∷ tokensFrom t (at + 1)
+  pub tokens-plain : tokensFrom t here ≡ placed here (aLiteral (getD t here 0) 1 1) ∷ tokensFrom t (here + 1)
   tokens-plain =
-      let b = getD t at 0 in
-      let s = drop (at + 1) t in
-      let w : (isPlain (getD t at 0) && not (starts (drop (at + 1) t) leftBrace)) ≡ true = front-in plainAt t at plain-inside ∙ p in
-      let q : (not (isMark b) && not (outside b)) ≡ true = and-true-left (isPlain b) (not (starts s leftBrace)) w in
-      let o = not-true (outside b) (and-true-right (not (isMark b)) (not (outside b)) q) in
-      let e = not-true (starts s leftBrace) (and-true-right (isPlain b) (not (starts s leftBrace)) w) in
-      let m = not-true (isMark b) (and-true-left (not (isMark b)) (not (outside b)) q) in
-      let m2 = or-false-right (eqb b bar) (eqb b asterisk || (eqb b leftParenthesis || (eqb b rightParenthesis || (eqb b backslash || (eqb b leftBrace || eqb b rightBrace))))) m in
-      let m3 = or-false-right (eqb b asterisk) (eqb b leftParenthesis || (eqb b rightParenthesis || (eqb b backslash || (eqb b leftBrace || eqb b rightBrace)))) m2 in
-      let m4 = or-false-right (eqb b leftParenthesis) (eqb b rightParenthesis || (eqb b backslash || (eqb b leftBrace || eqb b rightBrace))) m3 in
-      let m5 = or-false-right (eqb b rightParenthesis) (eqb b backslash || (eqb b leftBrace || eqb b rightBrace)) m4 in
-      let m6 = or-false-right (eqb b backslash) (eqb b leftBrace || eqb b rightBrace) m5 in
-      let z : at + 1 + 0 ≡ at + 1 = omega arith in
-      rw z at
-      (tokens-token t at plain-inside (aLiteral (getD t at 0) 1 1) 0
-      (rw (or-false-left (eqb b bar) _ m, or-false-left (eqb b asterisk) _ m2, or-false-left (eqb b leftParenthesis) _ m3)
-      (rw (or-false-left (eqb b rightParenthesis) _ m4, or-false-left (eqb b backslash) _ m5, m6, o, e) refl)))
+      let b = getD t here 0 in
+      let s = drop (here + 1) t in
+      let w : (isPlain (kindOf (getD t here 0)) && not (starts (drop (here + 1) t) leftBrace)) ≡ true = front-in plainAt t here plain-inside ∙ p in
+      let k = is-plain (kindOf b) (and-true-left (isPlain (kindOf b)) (not (starts s leftBrace)) w) in
+      let n = not-true (starts s leftBrace) (and-true-right (isPlain (kindOf b)) (not (starts s leftBrace)) w) in
+      let z : here + 1 + 0 ≡ here + 1 = omega arith in
+      rw z at (tokens-token t here plain-inside (aLiteral (getD t here 0) 1 1) 0 (rw (k, n) refl))
+    where
+      is-plain : (k : Kind) → isPlain k ≡ true → k ≡ Plain
+      is-plain Plain e = refl
+      is-plain Mark e = absurd (true≢false (sym e))
+      is-plain Refused e = absurd (true≢false (sym e))

@@ -1,7 +1,10 @@
 -- The bytes that an expression is written with (document 01, "Expressions as text"): the seven marks, literals, digits.
-use mathlib.Core.Bool.{Bool, _&&_, _||_}
+use mathlib.Core.Bool.{Bool, cond, _&&_, _||_}
 use Prim.Native.Nat.{ℕ}
 use lib.Dec.{eqb, leb}
+use Rattle.rules.specs.Limits.{outside}
+use Rattle.lexer.specs.declared.Kind.{Kind}
+use Rattle.lexer.specs.declared.Kind.the-variants.{Plain, Mark, Refused}
 
 abbrev pub bar : ℕ
 bar = 0x7c
@@ -38,6 +41,10 @@ abbrev pub isMark : ℕ → Bool
 isMark b =
     eqb b bar
     || (eqb b asterisk || (eqb b leftParenthesis || (eqb b rightParenthesis || (eqb b backslash || (eqb b leftBrace || eqb b rightBrace)))))
+
+-- "Literals are bytes 0x20 to 0x7E other than the seven marks": what a byte may be in a text
+abbrev pub kindOf : ℕ → Kind
+kindOf b = cond (outside b) Refused (cond (isMark b) Mark Plain)
 
 abbrev pub isDigit : ℕ → Bool
 isDigit b = leb digitZero b && leb b digitNine

@@ -1,3 +1,4 @@
 pub mod Bytes
 pub mod Tokens
+pub mod Faults
 pub mod Places

@@ -1,12 +1,13 @@
 -- From the bytes of an expression to its tokens, each with its place (document 01, "Expressions as text"; faults 11 and 19).
-use mathlib.Core.Bool.{Bool, false, cond, _&&_, _||_}
+use mathlib.Core.Bool.{Bool, false, cond, _&&_}
 use mathlib.Core.List.{List, [], _∷_}
 use Prim.Native.Nat.{ℕ, zero, suc, _+_, _-_, _*_}
 use lib.Dec.{eqb, leb}
 use lib.ListN.{drop, getD}
-use Rattle.rules.specs.Limits.{outside}
 use Rattle.rules.specs.Numbers.{textByte, repeatFault}
-use Rattle.lexer.specs.Bytes.{bar, asterisk, leftParenthesis, rightParenthesis, backslash, leftBrace, rightBrace, comma, digitZero, isMark, isDigit}
+use Rattle.lexer.specs.declared.Kind.{Kind}
+use Rattle.lexer.specs.declared.Kind.the-variants.{Plain, Mark, Refused}
+use Rattle.lexer.specs.Bytes.{bar, asterisk, leftParenthesis, rightParenthesis, backslash, leftBrace, rightBrace, comma, digitZero, kindOf, isDigit}
 
 -- a literal with its repeat {x,y} (alone: 1 to 1), the marks, and what is no token: 11 or 19
 pub data Token : Type 0 where
@@ -18,11 +19,7 @@ pub data Token : Type 0 where
 pub data Placed : Type 0 where
   placed : ℕ → Token → Placed
 
--- the first of these bytes is a mark, a digit, the byte c
-abbrev pub markAt : List ℕ → Bool
-markAt [] = false
-markAt (b ∷ s) = isMark b
-
+-- the first of these bytes is a digit, the byte c
 abbrev pub digitAt : List ℕ → Bool
 digitAt [] = false
 digitAt (b ∷ s) = isDigit b
@@ -74,21 +71,34 @@ literalOf b o noRepeat = tok (aLiteral b 1 1) o
 literalOf b o badRepeat = wrong repeatFault (o + 1)
 literalOf b o (repeat x y n) = tok (aLiteral b x y) (o + n)
 
--- "A mark is written as a literal by a backslash before it"
-abbrev pub escapedOf : List ℕ → One
-escapedOf s = cond (markAt s) (literalOf (getD s 0 0) 1 (repeatAt (drop 1 s))) (wrong textByte 0)
+-- "A mark is written as a literal by a backslash before it": b stands after the backslash, and s after b
+abbrev pub escapedBy : Kind → ℕ → List ℕ → One
+escapedBy Mark b s = literalOf b 1 (repeatAt s)
+escapedBy Plain b s = wrong textByte 0
+escapedBy Refused b s = wrong textByte 0
 
--- b: the first byte, s: those after it
-abbrev pub tokenOf : ℕ → List ℕ → One
-tokenOf b s =
+abbrev pub escapedOf : List ℕ → One
+escapedOf [] = wrong textByte 0
+escapedOf (b ∷ s) = escapedBy (kindOf b) b s
+
+-- the mark b before the bytes s; a brace that no literal stands before is 19
+abbrev pub markOf : ℕ → List ℕ → One
+markOf b s =
     cond (eqb b bar) (tok aBar 0)
     (cond (eqb b asterisk) (tok aStar 0)
     (cond (eqb b leftParenthesis) (tok anOpen 0)
     (cond (eqb b rightParenthesis) (tok aClose 0)
     (cond (eqb b backslash) (escapedOf s)
-    (cond (eqb b leftBrace || eqb b rightBrace) (wrong repeatFault 0)
-    (cond (outside b) (wrong textByte 0)
-    (literalOf b 0 (repeatAt s))))))))
+    (wrong repeatFault 0)))))
+
+-- the byte b of a kind before the bytes s
+abbrev pub tokenBy : Kind → ℕ → List ℕ → One
+tokenBy Plain b s = literalOf b 0 (repeatAt s)
+tokenBy Mark b s = markOf b s
+tokenBy Refused b s = wrong textByte 0
+
+abbrev pub tokenOf : ℕ → List ℕ → One
+tokenOf b s = tokenBy (kindOf b) b s
 
 -- the first token at place i, before the rest; nothing is read after a fault
 abbrev pub first : ℕ → (ℕ → List Placed) → One → List Placed

@@ -1,161 +1,96 @@
-use Prim.Native.Nat.{_+_}
 use borrow.Author.Needs.{needs}
-use mathlib.Core.Path.{refl, sym, _∙_}
+use mathlib.Core.Bool.{true}
+use mathlib.Core.List.{List}
+use mathlib.Core.Path.{_≡_, _∙_, sym, refl}
+use Prim.Native.Nat.{ℕ, _<_}
 use native.Mathlib.Omega.{arith}
-use Rattle.lexer.proofs.Front.{front-inside}
-use Rattle.lexer.proofs.Units.{unit-inside, literal-escaped, literal-lone, literal-brace, literal-unbrace, literal-low, literal-high, literal-plain}
-use Rattle.lexer.specs.Tokens.{markAt}
+use borrow.Author.Tests.{eq-eqb}
+use lib.ListN.{length, drop}
+use Rattle.lexer.proofs.Front.{front-in}
+use Rattle.lexer.proofs.Units.{unit-inside, literal-plain, literal-refused, literal-brace}
+use Rattle.lexer.specs.Bytes.{backslash}
+use Rattle.lexer.specs.Tokens.{starts}
 use Rattle.lexer.proofs.literal_at.Statement.{statement}
 use Rattle.lexer.proofs.literal_at.Tie as tie
 
+-- from where the byte's kind was asked back to the start
+abbrev start : tie.After-kind-of → tie.Start
+start c = c .before .before .before
+
+inside : (c : tie.Start) → c .args .at < length (c .args .text .now)
+inside c = unit-inside (c .args .text .now) (c .args .at) (c .pre .1)
+
 shared-slice-read-b : tie.Need-shared-slice-read-b
-shared-slice-read-b c =
-    let args = c .before .before .args in
-    let pre = c .before .before .pre in
-    (unit-inside (args .text .now) (args .at) (pre .1) (pre .2))
+shared-slice-read-b c = inside (c .before .before)
 
-add-mark-at : tie.Need-add-mark-at
-add-mark-at c =
-    let pre = c .before .before .before .pre in
-    let args = c .before .before .before .args in
-    omega (arith, pre .0, (unit-inside (args .text .now) (args .at) (pre .1) (pre .2)))
+kind-of-requires : tie.Need-kind-of-requires
+kind-of-requires c κs = search needs
 
-mark-at-requires : tie.Need-mark-at-requires
-mark-at-requires c κs = search needs
+enum-told : tie.Need-enum-told
+enum-told c = search needs
 
 add-repeated : tie.Need-add-repeated
-add-repeated c =
-    let pre = c .before .before .before .before .before .pre in
-    let args = c .before .before .before .before .before .args in
-    omega (arith, pre .0, (unit-inside (args .text .now) (args .at) (pre .1) (pre .2)))
-
-shared-slice-read-repeated : tie.Need-shared-slice-read-repeated
-shared-slice-read-repeated c =
-    let mark-at = c .before .before .mark-at in
-    let args = c .before .before .before .before .before .before .args in
-    (front-inside markAt (args .text .now) ((args .at) + 1) refl (sym (mark-at .ensures) ∙ (c .before .if2) .taken))
-
-add-repeated-2 : tie.Need-add-repeated-2
-add-repeated-2 c =
-    let pre = c .before .before .before .before .before .before .pre in
-    let args = c .before .before .before .before .before .before .args in
-    omega (arith, pre .0, (unit-inside (args .text .now) (args .at) (pre .1) (pre .2)))
+add-repeated c = let s = start (c .before .before) in omega (arith, s .pre .0, inside s)
 
 repeated-requires : tie.Need-repeated-requires
-repeated-requires c κs =
-    let mark-at = c .before .before .mark-at in
-    let pre = c .before .before .before .before .before .before .pre in
-    let args = c .before .before .before .before .before .before .args in
-    omega (arith, pre .0, (front-inside markAt (args .text .now) ((args .at) + 1) refl (sym (mark-at .ensures) ∙ (c .before .if2) .taken)))
+repeated-requires c κs = let s = start (c .before .before) in omega (arith, s .pre .0, inside s)
 
 returns : tie.Need-returns
 returns c =
-    let if2 = c .before .before .if2 in
-    let mark-at = c .before .before .before .mark-at in
-    let if1 = c .before .before .before .before .if1 in
-    let args = c .before .before .before .before .before .before .before .args in
-    let pre = c .before .before .before .before .before .before .before .pre in
-    literal-escaped (args .text .now) (args .at) (pre .1) (pre .2) ((c .repeated) .result) (if1 .taken) (sym (mark-at .ensures) ∙ if2 .taken) ((c .repeated) .ensures .0) ((c .repeated) .ensures .1)
+    let asked = c .before .before .before in
+    let s = start asked in
+    literal-plain (s .args .text .now) (s .args .at) (inside s) (c .repeated .result) (sym (asked .kind-of .ensures) ∙ c .before .enum-told .given .1) (c .repeated .ensures .0) (c .repeated .ensures .1)
 
-fault-requires : tie.Need-fault-requires
-fault-requires c κs = search needs
+enum-told-2 : tie.Need-enum-told-2
+enum-told-2 c = search needs
+
+escaped-requires : tie.Need-escaped-requires
+escaped-requires c κs =
+    let s = start (c .before .before .before) in
+    let text = s .args .text .now in
+    let place = s .args .at in
+    (s .pre .0, sym (front-in (λ (bytes : List ℕ). starts bytes backslash) text place (inside s)) ∙ eq-eqb _ backslash (c .if1 .taken))
 
 returns-2 : tie.Need-returns-2
-returns-2 c =
-    let mark-at = c .before .before .mark-at in
-    let if1 = c .before .before .before .if1 in
-    let args = c .before .before .before .before .before .before .args in
-    let pre = c .before .before .before .before .before .before .pre in
-    rw ((c .fault) .ensures) (literal-lone (args .text .now) (args .at) (pre .1) (pre .2) (if1 .taken) (sym (mark-at .ensures) ∙ (c .before .if2) .left))
+returns-2 c = c .escaped .ensures
 
-fault-requires-2 : tie.Need-fault-requires-2
-fault-requires-2 c κs = search needs
+refused-at-requires : tie.Need-refused-at-requires
+refused-at-requires c κs = search needs
 
 returns-3 : tie.Need-returns-3
 returns-3 c =
-    let args = c .before .before .before .before .before .args in
-    let pre = c .before .before .before .before .before .pre in
-    rw ((c .fault2) .ensures) (literal-brace (args .text .now) (args .at) (pre .1) (pre .2) ((c .before .if3) .taken))
+    let marked = c .before .before in
+    let asked = marked .before .before in
+    let s = start asked in
+    rw (c .refused-at .ensures) (literal-brace (s .args .text .now) (s .args .at) (s .pre .1) (s .pre .2) (sym (asked .kind-of .ensures) ∙ marked .enum-told2 .given .1) (c .before .if1 .left))
 
-fault-requires-3 : tie.Need-fault-requires-3
-fault-requires-3 c κs = search needs
+enum-told-3 : tie.Need-enum-told-3
+enum-told-3 c = search needs
+
+refused-at-requires-2 : tie.Need-refused-at-requires-2
+refused-at-requires-2 c κs = search needs
 
 returns-4 : tie.Need-returns-4
 returns-4 c =
-    let args = c .before .before .before .before .before .before .args in
-    let pre = c .before .before .before .before .before .before .pre in
-    rw ((c .fault3) .ensures) (literal-unbrace (args .text .now) (args .at) (pre .1) (pre .2) ((c .before .if4) .taken))
-
-fault-requires-4 : tie.Need-fault-requires-4
-fault-requires-4 c κs = search needs
-
-returns-5 : tie.Need-returns-5
-returns-5 c =
-    let if4 = c .before .before .if4 in
-    let if3 = c .before .before .before .if3 in
-    let if1 = c .before .before .before .before .if1 in
-    let args = c .before .before .before .before .before .before .before .args in
-    let pre = c .before .before .before .before .before .before .before .pre in
-    rw ((c .fault4) .ensures) (literal-low (args .text .now) (args .at) (pre .1) (pre .2) (if1 .left) (if3 .left) (if4 .left) ((c .before .if5) .taken))
-
-fault-requires-5 : tie.Need-fault-requires-5
-fault-requires-5 c κs = search needs
-
-returns-6 : tie.Need-returns-6
-returns-6 c =
-    let if5 = c .before .before .if5 in
-    let if4 = c .before .before .before .if4 in
-    let if3 = c .before .before .before .before .if3 in
-    let if1 = c .before .before .before .before .before .if1 in
-    let args = c .before .before .before .before .before .before .before .before .args in
-    let pre = c .before .before .before .before .before .before .before .before .pre in
-    rw ((c .fault5) .ensures) (literal-high (args .text .now) (args .at) (pre .1) (pre .2) (if1 .left) (if3 .left) (if4 .left) (if5 .left) ((c .before .if6) .taken))
-
-add-repeated-3 : tie.Need-add-repeated-3
-add-repeated-3 c =
-    let pre = c .before .before .before .before .before .before .before .pre in
-    let args = c .before .before .before .before .before .before .before .args in
-    omega (arith, pre .0, (unit-inside (args .text .now) (args .at) (pre .1) (pre .2)))
-
-repeated-requires-2 : tie.Need-repeated-requires-2
-repeated-requires-2 c κs =
-    let pre = c .before .before .before .before .before .before .before .pre in
-    let args = c .before .before .before .before .before .before .before .args in
-    omega (arith, pre .0, (unit-inside (args .text .now) (args .at) (pre .1) (pre .2)))
-
-returns-7 : tie.Need-returns-7
-returns-7 c =
-    let if5 = c .before .before .if5 in
-    let if4 = c .before .before .before .if4 in
-    let if3 = c .before .before .before .before .if3 in
-    let if1 = c .before .before .before .before .before .if1 in
-    let args = c .before .before .before .before .before .before .before .before .args in
-    let pre = c .before .before .before .before .before .before .before .before .pre in
-    literal-plain (args .text .now) (args .at) (pre .1) (pre .2) (if1 .left) (if3 .left) (if4 .left) (if5 .left) (c .repeated2 .result)
-    (c .before .if6 .left) ((c .repeated2) .ensures .0) ((c .repeated2) .ensures .1)
+    let asked = c .before .before .before in
+    let s = start asked in
+    rw (c .refused-at2 .ensures) (literal-refused (s .args .text .now) (s .args .at) (inside s) (sym (asked .kind-of .ensures) ∙ c .before .enum-told3 .given .1))
 
 pub literal-at-spec : {M : Type 1} → statement M
 literal-at-spec =
     tie.close
     (tie.spec
     shared-slice-read-b
-    add-mark-at
-    mark-at-requires
+    kind-of-requires
+    enum-told
     add-repeated
-    shared-slice-read-repeated
-    add-repeated-2
     repeated-requires
     returns
-    fault-requires
+    enum-told-2
+    escaped-requires
     returns-2
-    fault-requires-2
+    refused-at-requires
     returns-3
-    fault-requires-3
-    returns-4
-    fault-requires-4
-    returns-5
-    fault-requires-5
-    returns-6
-    add-repeated-3
-    repeated-requires-2
-    returns-7)
+    enum-told-3
+    refused-at-requires-2
+    returns-4)

@@ -1,18 +1,24 @@
 use borrow.Author.Needs.{needs}
 use mathlib.Core.Bool.{not}
-use mathlib.Core.Path.{ap, _∙_, sym, refl}
+use mathlib.Core.Path.{_≡_, ap, _∙_, sym, refl}
 use native.Mathlib.Omega.{arith}
+use lib.ListN.{getD}
 use Rattle.lexer.proofs.Front.{front-out}
-use Rattle.lexer.proofs.Units.{plain-in, plain-not}
+use Rattle.lexer.proofs.Units.{plain-by}
+use Rattle.lexer.specs.Bytes.{kindOf}
 use Rattle.lexer.specs.Places.{plainAt}
 use Rattle.lexer.proofs.plain_at.Statement.{statement}
 use Rattle.lexer.proofs.plain_at.Tie as tie
 
-shared-slice-read-is-plain : tie.Need-shared-slice-read-is-plain
-shared-slice-read-is-plain c = search needs
+-- the kind that was told is that of the byte here, and says what `plainAt` is
+shared-slice-read-kind-of : tie.Need-shared-slice-read-kind-of
+shared-slice-read-kind-of c = search needs
 
-is-plain-requires : tie.Need-is-plain-requires
-is-plain-requires c κs = search needs
+kind-of-requires : tie.Need-kind-of-requires
+kind-of-requires c κs = search needs
+
+enum-told : tie.Need-enum-told
+enum-told c = search needs
 
 add-is : tie.Need-add-is
 add-is c = search needs
@@ -22,30 +28,48 @@ is-requires c κs = search needs
 
 returns : tie.Need-returns
 returns c =
-    let is-plain = c .before .before .is-plain in
-    let if1 = c .before .before .before .before .if1 in
-    let args = c .before .before .before .before .before .before .args in
-    ap not ((c .is) .ensures) ∙ plain-in (args .text .now) (args .at) (if1 .taken) (sym (is-plain .ensures) ∙ (c .before .if2) .taken)
+    let asked = c .before .before .before in
+    let inside = asked .before .before in
+    let args = inside .before .before .args in
+    ap not (c .is .ensures) ∙ plain-by (args .text .now) (args .at) (inside .if1 .taken) (sym (asked .kind-of .ensures) ∙ c .before .enum-told .given .1)
+
+enum-told-2 : tie.Need-enum-told-2
+enum-told-2 c = search needs
 
 returns-2 : tie.Need-returns-2
 returns-2 c =
-    let if1 = c .before .before .before .if1 in
-    let args = c .before .before .before .before .before .args in
-    plain-not (args .text .now) (args .at) (if1 .taken) (sym ((c .before .is-plain) .ensures) ∙ (c .if2) .left)
+    let asked = c .before .before in
+    let inside = asked .before .before in
+    let args = inside .before .before .args in
+    plain-by (args .text .now) (args .at) (inside .if1 .taken) (sym (asked .kind-of .ensures) ∙ c .enum-told2 .given .1)
+
+enum-told-3 : tie.Need-enum-told-3
+enum-told-3 c = search needs
 
 returns-3 : tie.Need-returns-3
 returns-3 c =
+    let asked = c .before .before in
+    let inside = asked .before .before in
+    let args = inside .before .before .args in
+    plain-by (args .text .now) (args .at) (inside .if1 .taken) (sym (asked .kind-of .ensures) ∙ c .enum-told3 .given .1)
+
+returns-4 : tie.Need-returns-4
+returns-4 c =
     let args = c .before .before .args in
-    front-out plainAt (args .text .now) (args .at) refl (omega (arith, (c .if1) .left))
+    front-out plainAt (args .text .now) (args .at) refl (omega (arith, c .if1 .left))
 
 pub plain-at-spec : {M : Type 1} → statement M
 plain-at-spec =
     tie.close
     (tie.spec
-    shared-slice-read-is-plain
-    is-plain-requires
+    shared-slice-read-kind-of
+    kind-of-requires
+    enum-told
     add-is
     is-requires
     returns
+    enum-told-2
     returns-2
-    returns-3)
+    enum-told-3
+    returns-3
+    returns-4)

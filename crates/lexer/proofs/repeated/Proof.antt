@@ -9,6 +9,7 @@ use Rattle.lexer.specs.Bytes.{leftBrace}
 use Rattle.lexer.specs.Tokens.{digits, numberAt, starts}
 use Rattle.lexer.specs.Places.{closesAt, numberOf, FigureFits}
 use Rattle.lexer.specs.declared.Figure.the-variants.{Digits}
+use Rattle.lexer.specs.declared.Literal.the-variants.{Fault}
 use Rattle.lexer.proofs.Repeats.{repeat-first, repeat-second, closes-inside, repeat-good, repeat-bad, repeat-absent}
 use Rattle.lexer.proofs.repeated.Statement.{statement}
 use Rattle.lexer.proofs.repeated.Tie as tie
@@ -78,15 +79,15 @@ enum-known-q c = search needs
 enum-told : tie.Need-enum-told
 enum-told c = search needs
 
-fault-requires : tie.Need-fault-requires
-fault-requires c κs = search needs
+refused-at-requires : tie.Need-refused-at-requires
+refused-at-requires c κs = search needs
 
 returns : tie.Need-returns
 returns c =
     let args = c .before .before .before .before .before .before .before .args in
     let braced = sym (c .before .before .before .before .before .is .ensures) ∙ c .before .before .before .before .if1 .taken in
     let absent = sym (c .before .before .before .figure-at .ensures .0) ∙ ap numberOf (c .before .enum-told .given .1) in
-    (c .fault .ensures ∙ repeat-first (args .text .now) (args .b) (args .at) braced absent, rw (c .fault .ensures) tt)
+    (ap Fault (c .refused-at .ensures) ∙ repeat-first (args .text .now) (args .b) (args .at) braced absent, tt)
 
 add-figure-at-2 : tie.Need-add-figure-at-2
 add-figure-at-2 c = let f = fits (c .before) in omega (arith, f .1, f .2, start (c .before) .pre)
@@ -103,15 +104,15 @@ enum-known-o c = search needs
 enum-told-2 : tie.Need-enum-told-2
 enum-told-2 c = search needs
 
-fault-requires-2 : tie.Need-fault-requires-2
-fault-requires-2 c κs = search needs
+refused-at-requires-2 : tie.Need-refused-at-requires-2
+refused-at-requires-2 c κs = search needs
 
 returns-2 : tie.Need-returns-2
 returns-2 c =
     let told = c .before .before .before .before .before in
     let args = start told .args in
     let absent = sym (c .before .before .before .figure-at2 .ensures .0) ∙ ap numberOf (c .before .enum-told2 .given .1) in
-    (c .fault2 .ensures ∙ repeat-second (args .text .now) (args .b) (args .at) (brace told) (number told) absent, rw (c .fault2 .ensures) tt)
+    (ap Fault (c .refused-at2 .ensures) ∙ repeat-second (args .text .now) (args .b) (args .at) (brace told) (number told) absent, tt)
 
 add-closes : tie.Need-add-closes
 add-closes c = omega (arith, small (c .before))
@@ -131,14 +132,14 @@ add-closes-5 c = omega (arith, small (c .before))
 closes-requires : tie.Need-closes-requires
 closes-requires c κs = search needs
 
-add-t17 : tie.Need-add-t17
-add-t17 c = omega (arith, small (c .before .before .before))
-
-add-t18 : tie.Need-add-t18
-add-t18 c = omega (arith, small (c .before .before .before))
-
 add-t19 : tie.Need-add-t19
 add-t19 c = omega (arith, small (c .before .before .before))
+
+add-t20 : tie.Need-add-t20
+add-t20 c = omega (arith, small (c .before .before .before))
+
+add-t21 : tie.Need-add-t21
+add-t21 c = omega (arith, small (c .before .before .before))
 
 returns-3 : tie.Need-returns-3
 returns-3 c =
@@ -151,15 +152,16 @@ returns-3 c =
       (order, fits-2 told .0, omega arith, omega (arith, inside)),
     )
 
-fault-requires-3 : tie.Need-fault-requires-3
-fault-requires-3 c κs = search needs
+refused-at-requires-3 : tie.Need-refused-at-requires-3
+refused-at-requires-3 c κs = search needs
 
 returns-4 : tie.Need-returns-4
 returns-4 c =
     let told = c .before .before .before .before in
     let args = start (first told) .args in (
-      c .fault3 .ensures ∙ repeat-bad (args .text .now) (args .b) (args .at) (brace (first told)) (number (first told)) (number-2 told) (unclosed (c .before)),
-      rw (c .fault3 .ensures) tt,
+      ap Fault (c .refused-at3 .ensures)
+      ∙ repeat-bad (args .text .now) (args .b) (args .at) (brace (first told)) (number (first told)) (number-2 told) (unclosed (c .before)),
+      tt,
     )
 
 returns-5 : tie.Need-returns-5
@@ -178,14 +180,14 @@ repeated-spec =
     figure-at-requires
     enum-known-q
     enum-told
-    fault-requires
+    refused-at-requires
     returns
     add-figure-at-2
     add-figure-at-3
     figure-at-requires-2
     enum-known-o
     enum-told-2
-    fault-requires-2
+    refused-at-requires-2
     returns-2
     add-closes
     add-closes-2
@@ -193,10 +195,10 @@ repeated-spec =
     add-closes-4
     add-closes-5
     closes-requires
-    add-t17
-    add-t18
     add-t19
+    add-t20
+    add-t21
     returns-3
-    fault-requires-3
+    refused-at-requires-3
     returns-4
     returns-5)

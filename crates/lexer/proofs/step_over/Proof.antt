@@ -1,8 +1,8 @@
 use borrow.Author.Needs.{needs}
 use mathlib.Core.Path.{sym, _∙_}
-use Rattle.maker.proofs.Walks.{step-open, step-literal, step-mark}
-use Rattle.maker.proofs.step_over.Statement.{statement}
-use Rattle.maker.proofs.step_over.Tie as tie
+use Rattle.lexer.proofs.Walks.{step-open, step-literal, step-mark}
+use Rattle.lexer.proofs.step_over.Statement.{statement}
+use Rattle.lexer.proofs.step_over.Tie as tie
 
 is-requires : tie.Need-is-requires
 is-requires c κs = search needs

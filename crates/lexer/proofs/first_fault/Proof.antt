@@ -1,15 +1,17 @@
 use Prim.Native.Nat.{_≤_, _-_}
 use borrow.Author.Needs.{needs}
 use lib.ListN.{length}
+use mathlib.Core.Option.{some}
 use mathlib.Core.Path.{refl, ap, sym, _∙_, _≡_}
 use native.Mathlib.Omega.{arith}
+use Rattle.lexer.specs.Faults.{lexical}
+use Rattle.lexer.specs.Places.{Stepped}
 use Rattle.lexer.specs.Tokens.{tokensFrom}
-use Rattle.maker.specs.Steps.{Stepped}
-use Rattle.maker.proofs.Walks.{walk-on, walk-end}
-use Rattle.text.specs.Refusals.{lexical}
-use Rattle.maker.proofs.first_walk.Statement.{statement}
-use Rattle.maker.proofs.first_walk.Tie as tie
+use Rattle.lexer.proofs.Walks.{walk-on, walk-end, walk-stopped}
+use Rattle.lexer.proofs.first_fault.Statement.{statement}
+use Rattle.lexer.proofs.first_fault.Tie as tie
 
+-- the tokens from here on show the fault that all of them show
 abbrev Inv-loop : tie.InvT-loop
 Inv-loop text i₀ i =
     (lexical (tokensFrom text i) ≡ lexical (tokensFrom text 0)) × (i ≤ length text)
@@ -18,10 +20,10 @@ abbrev μ-loop : tie.MeasureT-loop
 μ-loop text i₀ i = length text - i
 
 stepped :
-    (c : tie.After-s Inv-loop μ-loop) →
+    (c : tie.After-s2 Inv-loop μ-loop) →
     let head = c .before .before .before .before in
-    Stepped (head .before .before .args .text .now) (head .loop .i) (c .s .given .0 .0) (c .s .given .0 .1 .0)
-stepped c = rw (c .s .given .1) at (c .before .before .step-over .ensures)
+    Stepped (head .before .before .args .text .now) (head .loop .i) (c .s2 .given .0 .0) (c .s2 .given .0 .1 .0)
+stepped c = rw (c .s2 .given .1) at (c .before .before .step-over .ensures)
 
 loop-holds : tie.Need-loop-holds Inv-loop μ-loop
 loop-holds c = (refl, omega arith)
@@ -32,13 +34,15 @@ step-over-requires c κs = search needs
 enum-known-s : tie.Need-enum-known-s Inv-loop μ-loop
 enum-known-s c = search needs
 
-enum-told : tie.Need-enum-told Inv-loop μ-loop
-enum-told c = search needs
-
 returns : tie.Need-returns Inv-loop μ-loop
 returns c =
-    let told = c .enum-told .given in
-    rw (told .1) (sym (c .before .before .before .before .loop .inv .0) ∙ ap lexical (rw (told .1) at (c .before .before .step-over .ensures)))
+    let stopped = c .before in
+    let stepping = stopped .before .before in
+    let head = stepping .before .before in
+    walk-stopped (head .before .before .args .text .now) (head .loop .i) (stopped .s .given .0 .0) (rw (stopped .s .given .1) at (stepping .step-over .ensures)) (head .loop .inv .0)
+
+enum-known-s-2 : tie.Need-enum-known-s-2 Inv-loop μ-loop
+enum-known-s-2 c = search needs
 
 loop-less : tie.Need-loop-less Inv-loop μ-loop
 loop-less c = let s = stepped (c .before) in omega (arith, s .further, s .inside)
@@ -49,10 +53,10 @@ loop-again c = let s = stepped (c .before) in (walk-on s (c .before .before .bef
 returns-2 : tie.Need-returns-2 Inv-loop μ-loop
 returns-2 c =
     let loop = c .before .loop in
-    walk-end (c .before .before .before .args .text .now) (loop .i) (omega (arith, c .loop-test .left)) (loop .inv .0)
+    sym (walk-end (c .before .before .before .args .text .now) (loop .i) (omega (arith, c .loop-test .left)) (loop .inv .0))
 
-pub first-walk-spec : {M : Type 1} → statement M
-first-walk-spec =
+pub first-fault-spec : {M : Type 1} → statement M
+first-fault-spec =
     tie.close
     (tie.spec
     Inv-loop
@@ -60,8 +64,8 @@ first-walk-spec =
     loop-holds
     step-over-requires
     enum-known-s
-    enum-told
     returns
+    enum-known-s-2
     loop-less
     loop-again
     returns-2)

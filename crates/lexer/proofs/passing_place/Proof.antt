@@ -3,13 +3,13 @@ use borrow.Author.Needs.{needs}
 use lib.ListN.{length}
 use mathlib.Core.Path.{refl, _≡_}
 use native.Mathlib.Omega.{arith}
 use Rattle.lexer.specs.Tokens.{tokensFrom}
-use Rattle.maker.proofs.Walks.{passes-none, passing-over, passes-here, passes-later, passes-end}
-use Rattle.maker.specs.Steps.{Stepped}
+use Rattle.lexer.proofs.Walks.{passes-none, passing-over, passes-here, passes-later, passes-end}
+use Rattle.lexer.specs.Places.{Stepped}
 use Rattle.rules.specs.Limits.{leafLimit}
-use Rattle.text.specs.Refusals.{passing}
-use Rattle.maker.proofs.passing_place.Statement.{statement}
-use Rattle.maker.proofs.passing_place.Tie as tie
+use Rattle.lexer.specs.Faults.{passing}
+use Rattle.lexer.proofs.passing_place.Statement.{statement}
+use Rattle.lexer.proofs.passing_place.Tie as tie
 
 abbrev Inv-loop : tie.InvT-loop
 Inv-loop text i₀ n₀ i n =

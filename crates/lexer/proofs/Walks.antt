@@ -1,27 +1,32 @@
 -- The walks over tokens: 11 and 19, and where the leaves pass the limit.
 use mathlib.Core.Path.{_≡_, refl, ap, sym, _∙_}
-use mathlib.Core.Bool.{Bool, true, false, cond}
-use mathlib.Core.Option.{none, some}
+use mathlib.Core.Bool.{Bool, true, false, true≢false, cond, _&&_, not}
+use mathlib.Core.Option.{Option, none, some}
 use mathlib.Core.List.{List, [], _∷_}
 use Prim.Native.Nat.{ℕ, _+_, _<_, _≤_}
 use native.Mathlib.Omega.{arith}
 use lib.Dec.{ltb, eqb}
 use lib.ListN.{length, getD, drop}
-use borrow.Author.Tests.{lt-ltb, le-ltb}
+use borrow.Author.Tests.{lt-ltb, le-ltb, ltb-false}
 use Rattle.rules.specs.Limits.{leafLimit}
 use Rattle.rules.specs.Numbers.{leavesMany}
+use Rattle.rules.specs.declared.Refusal.{Refusal}
+use Rattle.rules.specs.Fault.{at}
 use Rattle.rules.proofs.Grounds.{some-eq, no-some}
-use Rattle.lexer.specs.declared.Refusal.{Refusal}
 use Rattle.lexer.specs.Bytes.{bar, asterisk, leftParenthesis, rightParenthesis}
 use Rattle.lexer.specs.Tokens.{Placed, placed, aLiteral, aBar, aStar, anOpen, aClose, starts, tokensFrom}
-use Rattle.lexer.specs.Places.{unitAt, Taken, Faulty}
+use Rattle.lexer.specs.Faults.{lexical, leavesOf, passing}
+use Rattle.lexer.specs.Places.{unitAt, Taken, Faulty, Stepped, PassesAt}
 use Rattle.lexer.proofs.Front.{front-in, byte-inside, tokens-end, tokens-bar, tokens-star, tokens-open, tokens-close}
-use Rattle.text.specs.Refusals.{at, lexical, leavesOf, passing}
-use Rattle.maker.specs.Steps.{Stepped, PassesAt}
-use Rattle.text.proofs.Faults.{joins}
-use Rattle.text.proofs.Made.{total}
 
 -- A STEP
+-- where no unit starts, what is neither a bar nor a closed parenthesis is a star
+pub joins : (a b c : Bool) → (not a && (not b && not c)) ≡ false → c ≡ false → a ≡ false → b ≡ true
+joins true b c e f g = absurd (true≢false g)
+joins false true c e f g = refl
+joins false false true e f g = absurd (true≢false f)
+joins false false false e f g = absurd (true≢false e)
+
 module _ (t : List ℕ) (here : ℕ) where
   pub step-open : starts (drop here t) leftParenthesis ≡ true → Stepped t here (here + 1) 0
   step-open e = record {
@@ -87,6 +92,9 @@ module _ (t : List ℕ) (here : ℕ) where
 pub walk-on : {t : List ℕ} {i next y : ℕ} → Stepped t i next y → lexical (tokensFrom t i) ≡ lexical (tokensFrom t 0) → lexical (tokensFrom t next) ≡ lexical (tokensFrom t 0)
 walk-on {t} {next = next} s e = sym (s .sound (tokensFrom t next)) ∙ ap lexical (sym (s .front)) ∙ e
 
+pub walk-stopped : (t : List ℕ) (i : ℕ) (f : Refusal) → Faulty t i f → lexical (tokensFrom t i) ≡ lexical (tokensFrom t 0) → some f ≡ lexical (tokensFrom t 0)
+walk-stopped t i f q e = sym (ap lexical q) ∙ e
+
 pub walk-end : (t : List ℕ) (i : ℕ) → length t ≤ i → lexical (tokensFrom t i) ≡ lexical (tokensFrom t 0) → lexical (tokensFrom t 0) ≡ none
 walk-end t i h e = sym e ∙ ap lexical (tokens-end t i h)
 
@@ -113,6 +121,21 @@ module _ (t : List ℕ) (i n : ℕ) (e : passing n (tokensFrom t i) ≡ passing 
 
     pub passes-later : n + y ≤ leafLimit → passing (n + y) (tokensFrom t next) ≡ passing 0 (tokensFrom t 0)
     passes-later h = sym (here ∙ rw (le-ltb leafLimit (n + y) h) refl) ∙ e
+
+-- THE LEAVES ALL TOGETHER
+abbrev pub total : List Placed → ℕ
+total [] = 0
+total (placed i t ∷ ps) = leavesOf t + total ps
+
+-- where the leaves nowhere pass the limit, all together they do not
+pub passed-total : (n : ℕ) (ps : List Placed) → n ≤ leafLimit → passing n ps ≡ none → n + total ps ≤ leafLimit
+passed-total n [] h e = omega arith
+passed-total n (placed i t ∷ ps) h e = go (ltb leafLimit (n + leavesOf t)) refl (λ k f. passed-total (n + leavesOf t) ps k f) e
+  where
+    go : (b : Bool) → ltb leafLimit (n + leavesOf t) ≡ b → (n + leavesOf t ≤ leafLimit → passing (n + leavesOf t) ps ≡ none → n + leavesOf t + total ps ≤ leafLimit)
+        → _≡_ {A = Option Refusal} (cond b (some (at i leavesMany)) (passing (n + leavesOf t) ps)) none → n + (leavesOf t + total ps) ≤ leafLimit
+    go true l rest e = no-some (sym e)
+    go false l rest e = omega (arith, rest (ltb-false leafLimit (n + leavesOf t) l) e)
 
 -- leaves that all together do not pass the limit pass it nowhere
 pub passing-none : (n : ℕ) (ps : List Placed) → n + total ps ≤ leafLimit → passing n ps ≡ none
