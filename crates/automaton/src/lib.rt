@@ -13,11 +13,11 @@ ghost use Rattle.sheet.specs.Refusals.{sheetRefusal};
 ghost use Rattle.bits.specs.Sets.{setWords, setBits, Empty};
 ghost use Rattle.automaton.specs.Tables.{followWords, letterSets, letterWords, letterOf, Tables};
 ghost use Rattle.automaton.specs.Walk.{stackWords, Held, State, Reached, Closed, LettersTo};
+use buffers::wide;
 use sheet::CAT_NODE;
 use sheet::EMPTY_NODE;
 use sheet::LEAF_NODE;
 use sheet::UNION_NODE;
-use buffers::wide;
 
 // A set for each byte up to the highest literal.
 const LETTER_SETS: usize = rules::HIGHEST_BYTE as usize + 1;

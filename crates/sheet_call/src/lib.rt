@@ -16,7 +16,6 @@ use lexer::Refusal;
 use lexer::is;
 use lexer::literal_at;
 use lexer::unit_at;
-use sheet::FORM;
 use rules::LEAF_LIMIT;
 use rules::LEAVES_MANY;
 use rules::NODE_LIMIT;
@@ -24,6 +23,7 @@ use rules::NODES_MANY;
 use rules::SHEET_SHORT;
 use rules::TEXT_LIMIT;
 use rules::TEXT_LONG;
+use sheet::FORM;
 use text::Read;
 use text::read_text;
 

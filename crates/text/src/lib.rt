@@ -153,13 +153,7 @@ fn alternation(
 }
 
 // A sequence: its units, each after the first with the concatenation after it.
-fn sequence(
-    text: &[u8],
-    nodes: &mut [u8],
-    lits: &mut [u8],
-    from: Progress,
-    allowed: usize,
-) -> Read
+fn sequence(text: &[u8], nodes: &mut [u8], lits: &mut [u8], from: Progress, allowed: usize) -> Read
     requires { ⌜ Begun (length (now text)) from × (allowed ≤ openLimit) ⌝ }
     ensures { λ r. ⌜ SeqRead (now (text .entry)) allowed (state from (now (nodes .entry)) (now (lits .entry))) (now (nodes .exit)) (now (lits .exit)) r ⌝ }
 {
@@ -185,13 +179,7 @@ fn sequence(
 }
 
 // A unit: the empty word, an alternation in parentheses or a literal, and the stars after it.
-fn unit(
-    text: &[u8],
-    nodes: &mut [u8],
-    lits: &mut [u8],
-    from: Progress,
-    allowed: usize,
-) -> Read
+fn unit(text: &[u8], nodes: &mut [u8], lits: &mut [u8], from: Progress, allowed: usize) -> Read
     requires { ⌜ Begun (length (now text)) from × (allowed ≤ openLimit) ⌝ }
     ensures { λ r. ⌜ UnitRead (now (text .entry)) allowed (state from (now (nodes .entry)) (now (lits .entry))) (now (nodes .exit)) (now (lits .exit)) r ⌝ }
 {
