@@ -11,13 +11,8 @@ use lib.Seq.{drop-cons}
 use Rattle.rules.specs.Limits.{leafLimit, nodeLimit, waitingLimit}
 use Rattle.rules.proofs.Grounds.{some-eq, no-some}
 use Rattle.language.specs.Tree.{Tree, leaf, empty, cat, alt, star, size}
-use Rattle.language.specs.Reading.{Pattern}
 use Rattle.language.specs.Follow.{follow}
-use Rattle.sheet.specs.Layout.{leafCount}
 use Rattle.sheet.specs.Nodes.{Node, aLeaf, anEmpty, aCat, aUnion, aStar, noNode, nodeOf, build}
-use Rattle.sheet.specs.Refusals.{sheetRefusal}
-use Rattle.sheet.specs.Stands.{standsFor}
-use Rattle.sheet.proofs.Accepted.{conditions, Meant, accepted-meant}
 use Rattle.bits.specs.Sets.{setBits, Empty}
 use Rattle.automaton.specs.Walk.{Held, followAll, State}
 
@@ -45,37 +40,34 @@ room p (aStar ∷ ns) [] t e = no-some e
 room p (aStar ∷ ns) (u ∷ ts) t e = let h = room p ns (star u ∷ ts) t e in record { deep = omega (arith, h .deep); wide = omega (arith, h .wide) }
 room p (noNode ∷ ns) ts t e = no-some e
 
--- of the sheet s the nodes before `at` are read, top trees wait, and p is the next position
+-- of the nodes s those before `at` are read, top trees wait, and p is the next position
 pub record Going (s : List ℕ) (at top p : ℕ) (n f g : List ℕ) : Type 0 where
-  pub pattern : Pattern
-  pub meant : Meant s pattern
+  pub tree : Tree ℕ
+  pub meant : build 1 (map nodeOf s) [] ≡ some (tree ∷ [])
   pub trees : List (Tree ℕ)
-  pub left : build p (map nodeOf (drop at s)) trees ≡ some (pattern .tree ∷ [])
-  pub few : length s ≤ 3 + leafCount s + nodeLimit
-  pub small : size (pattern .tree) ≤ leafLimit
+  pub left : build p (map nodeOf (drop at s)) trees ≡ some (tree ∷ [])
+  pub few : length s ≤ nodeLimit
+  pub small : size tree ≤ leafLimit
   pub within : at ≤ length s
   pub depth : length trees ≡ top
-  pub read : length trees + 3 + leafCount s ≤ at
+  pub read : length trees ≤ at
   pub next : p ≡ 1 + total trees
   pub state : State n f g trees
 
-pub start : (s : List ℕ) (n f g : List ℕ) → sheetRefusal s ≡ none → getD s (2 + leafCount s) 0 ≤ nodeLimit → Empty n → (at : ℕ) → at ≡ 3 + leafCount s → Going s at 0 1 n f g
-start s n f g e b z at h =
-    let c = conditions s e in
-    let (P, m) = accepted-meant s e in
-    record {
-      pattern = P;
-      meant = m;
-      trees = [];
-      left = rw h (m .nodes);
-      few = omega (arith, c .fits);
-      small = omega (arith, m .sized, c .few);
-      within = omega (arith, c .counts);
-      depth = refl;
-      read = omega arith;
-      next = refl;
-      state = record { held = tt; linked = λ p q. z (suc p) q };
-    }
+pub start : (s n f g : List ℕ) (t : Tree ℕ) → build 1 (map nodeOf s) [] ≡ some (t ∷ []) → size t ≤ leafLimit → length s ≤ nodeLimit → Empty n → Going s 0 0 1 n f g
+start s n f g t e small few z = record {
+  tree = t;
+  meant = e;
+  trees = [];
+  left = e;
+  few = few;
+  small = small;
+  within = omega arith;
+  depth = refl;
+  read = omega arith;
+  next = refl;
+  state = record { held = tt; linked = λ p q. z (suc p) q };
+}
 
 -- a node that takes two trees found them, and one that takes one
 record TakenTwo (make : Tree ℕ → Tree ℕ → Tree ℕ) (p : ℕ) (ns : List Node) (ts : List (Tree ℕ)) (t : Tree ℕ) : Type 0 where
@@ -110,13 +102,17 @@ take-star (suc (suc (suc (suc zero)))) p ns [] t h e = no-some e
 take-star (suc (suc (suc (suc zero)))) p ns (r ∷ ts) t h e = record { r = r; rest = ts; were = refl; after = e }
 take-star (suc (suc (suc (suc (suc b))))) p ns ts t h e = no-some e
 
+-- a node byte that is none of the other four
+pub is-star : (b : ℕ) → (b ≡ 0 → ⊥) → (b ≡ 1 → ⊥) → (b ≡ 2 → ⊥) → (b ≡ 3 → ⊥) → 4 ≤ b
+is-star b no-leaf no-empty no-cat no-union = omega arith
+
 or-alt : (a b c : Bool) → (a || (b || c)) ≡ ((b || a) || c)
 or-alt true true c = refl
 or-alt true false c = refl
 or-alt false true c = refl
 or-alt false false c = refl
 
-module _ (s : List ℕ) (at top p : ℕ) (n f g : List ℕ) (w : Going s at top p n f g) where
+module _ {s : List ℕ} {at top p : ℕ} {n f g : List ℕ} (w : Going s at top p n f g) where
   -- the nodes after the one at `at`
   abbrev rest : List Node
   rest = map nodeOf (drop (at + 1) s)
@@ -126,22 +122,22 @@ module _ (s : List ℕ) (at top p : ℕ) (n f g : List ℕ) (w : Going s at top 
 
   pub not-deep : top ≤ waitingLimit
   not-deep =
-      let r = room p (map nodeOf (drop at s)) (w .trees) (w .pattern .tree) (w .left) in
+      let r = room p (map nodeOf (drop at s)) (w .trees) (w .tree) (w .left) in
       omega (arith, r .deep, length-map (drop at s) nodeOf, length-drop at s, w .depth, w .read, w .few, w .within)
 
   module _ (h : at < length s) where
-    opened : (b : ℕ) → getD s at 0 ≡ b → build p (nodeOf b ∷ rest) (w .trees) ≡ some (w .pattern .tree ∷ [])
+    opened : (b : ℕ) → getD s at 0 ≡ b → build p (nodeOf b ∷ rest) (w .trees) ≡ some (w .tree ∷ [])
     opened b e = rw (add-one at, ← e) (rw (drop-cons s at 0 h) at (w .left))
 
     -- one more waits
-    module _ (q : ℕ) (t : Tree ℕ) (left : build q rest (t ∷ w .trees) ≡ some (w .pattern .tree ∷ [])) where
+    module _ (q : ℕ) (t : Tree ℕ) (left : build q rest (t ∷ w .trees) ≡ some (w .tree ∷ [])) where
       grown : top < waitingLimit
-      grown = let r = room q rest (t ∷ w .trees) (w .pattern .tree) left in omega (arith, r .deep, rest-length, w .depth, w .read, w .few)
+      grown = let r = room q rest (t ∷ w .trees) (w .tree) left in omega (arith, r .deep, rest-length, w .depth, w .read, w .few)
 
       grow : q ≡ p + size t → (f′ g′ : List ℕ) → ((ts : List (Tree ℕ)) → length ts ≡ top → Held f g ts → Held f′ g′ (t ∷ ts))
           → ((a b : ℕ) → follow t a b ≡ false) → Going s (at + 1) (top + 1) q n f′ g′
       grow e f′ g′ x z = record {
-        pattern = w .pattern;
+        tree = w .tree;
         meant = w .meant;
         trees = t ∷ w .trees;
         left = left;
@@ -156,7 +152,7 @@ module _ (s : List ℕ) (at top p : ℕ) (n f g : List ℕ) (w : Going s at top 
 
     pub leaf-fits : getD s at 0 ≡ 0 → (top < waitingLimit) × (1 ≤ p) × (p < setBits)
     leaf-fits e =
-        let r = room (suc p) rest (leaf p ∷ w .trees) (w .pattern .tree) (opened 0 e) in
+        let r = room (suc p) rest (leaf p ∷ w .trees) (w .tree) (opened 0 e) in
         let d = grown (suc p) (leaf p) (opened 0 e) in
         omega (arith, r .wide, w .next, w .small)
 
@@ -170,14 +166,14 @@ module _ (s : List ℕ) (at top p : ℕ) (n f g : List ℕ) (w : Going s at top 
     empty-turn e f′ g′ x = grow p empty (opened 1 e) (omega arith) f′ g′ x (λ a b. refl)
 
     -- two become one
-    module _ (make : Tree ℕ → Tree ℕ → Tree ℕ) (sizes : (r u : Tree ℕ) → size (make r u) ≡ size r + size u) (o : TakenTwo make p rest (w .trees) (w .pattern .tree)) where
+    module _ (make : Tree ℕ → Tree ℕ → Tree ℕ) (sizes : (r u : Tree ℕ) → size (make r u) ≡ size r + size u) (o : TakenTwo make p rest (w .trees) (w .tree)) where
       two-fit : 2 ≤ top
       two-fit = omega (arith, ap length (o .were), w .depth)
 
       two-turn : (n′ f′ g′ : List ℕ) → ((r u : Tree ℕ) (ts : List (Tree ℕ)) → length ts ≡ top - 1 - 1 → State n f g (u ∷ r ∷ ts) → State n′ f′ g′ (make r u ∷ ts))
           → Going s (at + 1) (top - 1) p n′ f′ g′
       two-turn n′ f′ g′ x = record {
-        pattern = w .pattern;
+        tree = w .tree;
         meant = w .meant;
         trees = make (o .r) (o .u) ∷ o .rest;
         left = o .after;
@@ -190,14 +186,14 @@ module _ (s : List ℕ) (at top p : ℕ) (n f g : List ℕ) (w : Going s at top 
         state = x (o .r) (o .u) (o .rest) (omega (arith, ap length (o .were), w .depth)) (rw (o .were) at (w .state));
       }
 
-    taken-cat : getD s at 0 ≡ 2 → TakenTwo cat p rest (w .trees) (w .pattern .tree)
-    taken-cat e = take-cat p rest (w .trees) (w .pattern .tree) (opened 2 e)
+    taken-cat : getD s at 0 ≡ 2 → TakenTwo cat p rest (w .trees) (w .tree)
+    taken-cat e = take-cat p rest (w .trees) (w .tree) (opened 2 e)
 
-    taken-alt : getD s at 0 ≡ 3 → TakenTwo alt p rest (w .trees) (w .pattern .tree)
-    taken-alt e = take-alt p rest (w .trees) (w .pattern .tree) (opened 3 e)
+    taken-alt : getD s at 0 ≡ 3 → TakenTwo alt p rest (w .trees) (w .tree)
+    taken-alt e = take-alt p rest (w .trees) (w .tree) (opened 3 e)
 
-    taken-star : 4 ≤ getD s at 0 → TakenOne p rest (w .trees) (w .pattern .tree)
-    taken-star b = take-star (getD s at 0) p rest (w .trees) (w .pattern .tree) b (opened (getD s at 0) refl)
+    taken-star : 4 ≤ getD s at 0 → TakenOne p rest (w .trees) (w .tree)
+    taken-star b = take-star (getD s at 0) p rest (w .trees) (w .tree) b (opened (getD s at 0) refl)
 
     pub cat-fits : getD s at 0 ≡ 2 → 2 ≤ top
     cat-fits e = two-fit cat (λ r u. refl) (taken-cat e)
@@ -222,9 +218,9 @@ module _ (s : List ℕ) (at top p : ℕ) (n f g : List ℕ) (w : Going s at top 
         → ((r : Tree ℕ) (ts : List (Tree ℕ)) → length ts ≡ top - 1 → State n f g (r ∷ ts) → State n′ f g′ (star r ∷ ts)) → Going s (at + 1) top p n′ f g′
     star-turn b n′ g′ x = go (taken-star b)
       where
-        go : TakenOne p rest (w .trees) (w .pattern .tree) → Going s (at + 1) top p n′ f g′
+        go : TakenOne p rest (w .trees) (w .tree) → Going s (at + 1) top p n′ f g′
         go o = record {
-          pattern = w .pattern;
+          tree = w .tree;
           meant = w .meant;
           trees = star (o .r) ∷ o .rest;
           left = o .after;
@@ -238,8 +234,8 @@ module _ (s : List ℕ) (at top p : ℕ) (n f g : List ℕ) (w : Going s at top 
         }
 
   -- all nodes are read
-  pub finish : length s ≤ at → (P : Pattern) → standsFor s ≡ some P → State n f g (P .tree ∷ [])
-  finish z P e =
-      let lone : w .trees ≡ w .pattern .tree ∷ [] = some-eq (rw (drop-of-length-le s {i = at} z) at (w .left)) in
-      let same : w .pattern ≡ P = some-eq (sym (w .meant .stands) ∙ e) in
+  pub finish : length s ≤ at → (t : Tree ℕ) → build 1 (map nodeOf s) [] ≡ some (t ∷ []) → State n f g (t ∷ [])
+  finish z t e =
+      let lone : w .trees ≡ w .tree ∷ [] = some-eq (rw (drop-of-length-le s {i = at} z) at (w .left)) in
+      let same : w .tree ∷ [] ≡ t ∷ [] = some-eq (sym (w .meant) ∙ e) in
       rw (← same, ← lone) (w .state)

@@ -8,7 +8,7 @@ use lib.ListN.{length}
 use Rattle.rules.specs.Limits.{waitingLimit}
 use Rattle.language.specs.Tree.{Tree}
 use Rattle.language.specs.Follow.{first, follow, stop}
-use Rattle.sheet.specs.Stands.{literal}
+use Rattle.sheet.specs.Layout.{takes}
 use Rattle.bits.specs.Sets.{setWords, has}
 
 -- a set for each subtree that may wait
@@ -45,6 +45,6 @@ Reached xs ys stops k = (p x : ℕ) → has ys p x ≡ (has xs p x || eqb p k &&
 abbrev pub Closed : List ℕ → List ℕ → ℕ → Type 0
 Closed xs ys k = (p x : ℕ) → p ≤ k → has ys p x ≡ cond (eqb p k) (has xs (k + 1) x && not (eqb x 0) || has xs (k + 1) 0 && has xs k x) (has xs p x)
 
--- set b of `letters` has the positions up to n whose literal is b
+-- set b of `letters` has the positions up to n whose leaf takes b
 abbrev pub LettersTo : List ℕ → List ℕ → ℕ → Type 0
-LettersTo sheet letters n = (b q : ℕ) → has letters b q ≡ (leb 1 q && leb q n && eqb (literal sheet q) b)
+LettersTo sheet letters n = (b q : ℕ) → has letters b q ≡ (leb 1 q && leb q n && takes sheet q b)

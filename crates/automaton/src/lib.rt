@@ -1,12 +1,13 @@
 // From an accepted sheet to the tables of its positions: what may follow what, where a word may end, which positions take a byte.
 ghost use mathlib.Core.Path.{_≡_};
 ghost use mathlib.Core.Option.{none, some};
-ghost use mathlib.Core.List.{List, [], _∷_};
+ghost use mathlib.Core.List.{List, [], _∷_, map};
 ghost use Prim.Native.Nat.{ℕ, _+_, _*_, _≤_, _<_};
 ghost use lib.ListN.{length};
-ghost use Rattle.rules.specs.Limits.{waitingLimit};
-ghost use Rattle.language.specs.Tree.{Tree, leaf, empty, cat, alt, star};
+ghost use Rattle.rules.specs.Limits.{leafLimit, nodeLimit, waitingLimit};
+ghost use Rattle.language.specs.Tree.{Tree, leaf, empty, cat, alt, star, size};
 ghost use Rattle.language.specs.Reading.{Pattern};
+ghost use Rattle.sheet.specs.Nodes.{nodeOf, build};
 ghost use Rattle.sheet.specs.Layout.{leafCount};
 ghost use Rattle.sheet.specs.Stands.{standsFor};
 ghost use Rattle.sheet.specs.Refusals.{sheetRefusal};
@@ -115,17 +116,18 @@ pub fn letter(b: u8) -> usize
     if at < LETTER_SETS { at } else { 0 }
 }
 
-// Reads the node bytes of an accepted sheet; its tree is all that waits at the end. A node that is none of the other four is a star.
-fn walk(sheet: &[u8], follow: &mut [u64], firsts: &mut [u64], stops: &mut [u64])
-    requires { ⌜ (sheetRefusal (now sheet) ≡ none) × Empty (now follow) ⌝ }
+// Reads node bytes that build one tree; it is all that waits at the end. A node that is none of the other four is a star.
+fn walk(nodes: &[u8], follow: &mut [u64], firsts: &mut [u64], stops: &mut [u64])
+    requires { ⌜ ((t : Tree ℕ) × (build 1 (map nodeOf (now nodes)) [] ≡ some (t ∷ [])) × (size t ≤ leafLimit)) ⌝ }
+    requires { ⌜ (length (now nodes) ≤ nodeLimit) × Empty (now follow) ⌝ }
     requires { ⌜ (followWords ≤ length (now follow)) × (stackWords ≤ length (now firsts)) × (stackWords ≤ length (now stops)) ⌝ }
-    ensures { λ _. ⌜ ((P : Pattern) → standsFor (now (sheet .entry)) ≡ some P → State (now (follow .exit)) (now (firsts .exit)) (now (stops .exit)) (P .tree ∷ [])) ⌝ }
+    ensures { λ _. ⌜ ((t : Tree ℕ) → build 1 (map nodeOf (now (nodes .entry))) [] ≡ some (t ∷ []) → State (now (follow .exit)) (now (firsts .exit)) (now (stops .exit)) (t ∷ [])) ⌝ }
 {
-    let mut at = 3 + wide(sheet[1]);
+    let mut at = 0;
     let mut top = 0;
     let mut p = 1;
-    while at < sheet.len() {
-        let node = sheet[at];
+    while at < nodes.len() {
+        let node = nodes[at];
         at += 1;
         if node == LEAF_NODE {
             put_leaf(firsts, stops, top, p);
@@ -146,16 +148,16 @@ fn walk(sheet: &[u8], follow: &mut [u64], firsts: &mut [u64], stops: &mut [u64])
     }
 }
 
-// Puts each position into the set of its literal.
+// Puts each position into the set of the byte that its leaf takes.
 fn put_letters(sheet: &[u8], letters: &mut [u64])
     requires { ⌜ (sheetRefusal (now sheet) ≡ none) × Empty (now letters) × (letterWords ≤ length (now letters)) ⌝ }
     ensures { λ _. ⌜ LettersTo (now (sheet .entry)) (now (letters .exit)) (leafCount (now (sheet .entry))) ⌝ }
 {
-    let n = wide(sheet[1]);
+    let n = sheet::leaf_count(sheet);
     let mut p = 0;
     while p < n {
         p += 1;
-        bits::insert(letters, wide(sheet[1 + p]), p);
+        bits::insert(letters, wide(sheet::byte_at(sheet, p)), p);
     }
 }
 
@@ -167,7 +169,7 @@ pub fn tables(sheet: &[u8], follow: &mut [u64], stop: &mut [u64], letters: &mut 
 {
     let mut firsts = [0u64; STACK_WORDS];
     let mut stops = [0u64; STACK_WORDS];
-    walk(sheet, follow, &mut firsts, &mut stops);
+    walk(sheet::nodes(sheet), follow, &mut firsts, &mut stops);
     bits::copy_set(follow, 0, &firsts, 0);
     bits::copy_set(stop, 0, &stops, 0);
     put_letters(sheet, letters);

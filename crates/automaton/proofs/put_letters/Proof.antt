@@ -1,10 +1,11 @@
+-- Before each turn the positions up to p are in the sets of what they take.
 use borrow.Author.Needs.{needs}
 use mathlib.Core.Path.{_≡_, refl}
-use Prim.Native.Nat.{_+_, _-_, _≤_}
+use Prim.Native.Nat.{_-_, _≤_}
 use native.Mathlib.Omega.{arith}
 use lib.ListN.{length}
 use Rattle.sheet.specs.Layout.{leafCount}
-use Rattle.sheet.proofs.Accepted.{conditions, literal-inside}
+use Rattle.sheet.proofs.Accepted.{conditions}
 use Rattle.automaton.specs.Walk.{LettersTo}
 use Rattle.automaton.proofs.Filled.{letters-start, letters-turn}
 use Rattle.automaton.proofs.put_letters.Statement.{statement}
@@ -16,77 +17,57 @@ Inv-loop sheet letters₀ n p₀ letters p = (p ≤ n) × (length letters ≡ le
 abbrev μ-loop : tie.MeasureT-loop
 μ-loop sheet letters₀ n p₀ letters p = n - p
 
-shared-slice-read-wide : tie.Need-shared-slice-read-wide Inv-loop μ-loop
-shared-slice-read-wide c =
-    let args = c .before .before .before .args in
-    let pre = c .before .before .before .pre in
-    let d = conditions (args .sheet .now) (pre .0) in
-    omega (arith, d .counts)
-
-wide-requires : tie.Need-wide-requires Inv-loop μ-loop
-wide-requires c κs = search needs
+leaf-count-requires : tie.Need-leaf-count-requires Inv-loop μ-loop
+leaf-count-requires c κs = search needs
 
 loop-holds : tie.Need-loop-holds Inv-loop μ-loop
 loop-holds c =
-    let args = c .before .before .before .before .args in
-    let pre = c .before .before .before .before .pre in
-    let g = args in
-    (omega arith, refl, letters-start (g .sheet .now) (g .letters .now) (pre .1))
+    let begun = c .before .before .before in
+    (omega arith, refl, letters-start (begun .args .sheet .now) (begun .args .letters .now) (begun .pre .1))
 
 add-p : tie.Need-add-p Inv-loop μ-loop
 add-p c = search needs
 
-add-wide : tie.Need-add-wide Inv-loop μ-loop
-add-wide c =
-    let args = c .before .before .before .before .before .before .before .args in
-    let pre = c .before .before .before .before .before .before .before .pre in
-    let d = conditions (args .sheet .now) (pre .0) in
-    omega (arith, d .few)
+byte-at-requires : tie.Need-byte-at-requires Inv-loop μ-loop
+byte-at-requires c κs =
+    let loop = c .before .before in
+    let counted = loop .before in
+    (counted .before .before .before .pre .0, omega arith, omega (arith, counted .leaf-count .ensures .0))
 
-shared-slice-read-wide-2 : tie.Need-shared-slice-read-wide-2 Inv-loop μ-loop
-shared-slice-read-wide-2 c =
-    let args = c .before .before .before .before .before .before .before .before .args in
-    let pre = c .before .before .before .before .before .before .before .before .pre in
-    let d = conditions (args .sheet .now) (pre .0) in
-    omega (arith, d .few, d .counts)
-
-wide-requires-2 : tie.Need-wide-requires-2 Inv-loop μ-loop
-wide-requires-2 c κs = search needs
+wide-requires : tie.Need-wide-requires Inv-loop μ-loop
+wide-requires c κs = search needs
 
 insert-requires : tie.Need-insert-requires Inv-loop μ-loop
 insert-requires c κs =
-    let args = c .before .before .before .before .before .before .before .before .before .args in
-    let pre = c .before .before .before .before .before .before .before .before .before .pre in
-    let d = conditions (args .sheet .now) (pre .0) in
-    let l = c .before .before .before .before .loop in
-    let n = c .before .before .before .before .before .wide in
-    let inside = literal-inside (args .sheet .now) (l .p + 1) d (omega arith) (omega (arith, n .ensures .0)) in
-    omega (arith, d .few, c .wide2 .ensures .0, inside .1)
+    let asked = c .before in
+    let counted = asked .before .before .before .before in
+    let begun = counted .before .before .before in
+    let few = conditions (begun .args .sheet .now) (begun .pre .0) .few in
+    omega (arith, counted .leaf-count .ensures .0, asked .byte-at .ensures .1, c .wide .ensures .0)
 
 loop-less : tie.Need-loop-less Inv-loop μ-loop
 loop-less c = search needs
 
 loop-again : tie.Need-loop-again Inv-loop μ-loop
 loop-again c =
-    let insert = c .before .before .insert in
-    let wide2 = c .before .before .before .wide2 in
-    let loop = c .before .before .before .before .before .before .before .loop in
-    let args = c .before .before .before .before .before .before .before .before .before .before .before .before .args in
-    let l = loop in
-    let w = wide2 in
-    let x = insert in
-    (omega arith, omega arith, letters-turn (args .sheet .now) (l .letters) (x .last .0) (l .p) (w .result) (w .ensures .0) (l .inv .2) (x .ensures))
+    let put = c .before .before in
+    let asked = put .before .before in
+    let loop = asked .before .before .before in
+    let begun = loop .before .before .before .before in
+    let byte = asked .byte-at in
+    let takes-it = rw (← put .before .wide .ensures .0) at (byte .ensures .0) in
+    (omega arith, omega arith, letters-turn (begun .args .sheet .now) (loop .loop .letters) (put .insert .last .0) (loop .loop .p) (put .before .wide .result) takes-it (loop .loop .inv .2) (put .insert .ensures))
 
 same-length : tie.Need-same-length Inv-loop μ-loop
 same-length c = search needs
 
 returns : tie.Need-returns Inv-loop μ-loop
 returns c =
-    let wide = c .before .before .wide in
-    let args = c .before .before .before .before .before .before .args in
-    let l = c .before .loop in
-    let e : l .p ≡ leafCount (args .sheet .now) = omega (arith, wide .ensures .0) in
-    rw e at (l .inv .2)
+    let loop = c .before in
+    let counted = loop .before in
+    let sheet = counted .before .before .before .args .sheet .now in
+    let all : loop .loop .p ≡ leafCount sheet = omega (arith, counted .leaf-count .ensures .0) in
+    rw all at (loop .loop .inv .2)
 
 pub put-letters-spec : {M : Type 1} → statement M
 put-letters-spec =
@@ -94,13 +75,11 @@ put-letters-spec =
     (tie.spec
     Inv-loop
     μ-loop
-    shared-slice-read-wide
-    wide-requires
+    leaf-count-requires
     loop-holds
     add-p
-    add-wide
-    shared-slice-read-wide-2
-    wide-requires-2
+    byte-at-requires
+    wide-requires
     insert-requires
     loop-less
     loop-again
