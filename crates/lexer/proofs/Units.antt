@@ -73,8 +73,8 @@ module _ (t : List ℕ) (here : ℕ) where
     pub literal-brace : starts (drop here t) leftParenthesis ≡ false → kindOf (getD t here 0) ≡ Mark → (getD t here 0 ≡ backslash → ⊥) → LiteralIs t here (Fault (at here repeatFault))
     literal-brace p k n =
         let o =
-        other (getD t here 0) (front-in unitAt t here unit-inside ∙ u)
-        (front-in (λ (s : List ℕ). starts s leftParenthesis) t here unit-inside ∙ p) in
+            other (getD t here 0) (front-in unitAt t here unit-inside ∙ u)
+            (front-in (λ (s : List ℕ). starts s leftParenthesis) t here unit-inside ∙ p) in
         fault-here unit-inside repeatFault (rw (k, o .no-bar, o .no-star, o .no-open, o .no-close, ne-eqb (getD t here 0) backslash n) refl)
 
   -- after a backslash

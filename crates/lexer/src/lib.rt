@@ -8,7 +8,6 @@ ghost use Rattle.lexer.specs.Bytes.{leftParenthesis, backslash, digitZer
 ghost use Rattle.lexer.specs.Tokens.{starts, digitAt, numberAt, repeatAt, tokensFrom};
 ghost use Rattle.lexer.specs.Faults.{lexical};
 ghost use Rattle.lexer.specs.Places.{startsUnit, unitAt, plainAt, numberOf, FigureFits, closesAt, literalWith, LiteralFits, LiteralIs, PassageIs, foundIn, PassesAt};
-use buffers::wide;
 use rules::HIGHEST_BYTE;
 use rules::LEAF_LIMIT;
 use rules::LOWEST_BYTE;
@@ -16,6 +15,7 @@ use rules::REPEAT_FAULT;
 use rules::Refusal;
 use rules::TEXT_BYTE;
 use rules::refused_at;
+use buffers::wide;
 
 const DIGIT_ZERO: usize = b'0' as usize;
 

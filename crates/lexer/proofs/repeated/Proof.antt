@@ -160,7 +160,7 @@ returns-4 c =
     let told = c .before .before .before .before in
     let args = start (first told) .args in (
       ap Fault (c .refused-at3 .ensures)
-          ∙ repeat-bad (args .text .now) (args .b) (args .at) (brace (first told)) (number (first told)) (number-2 told) (unclosed (c .before)),
+      ∙ repeat-bad (args .text .now) (args .b) (args .at) (brace (first told)) (number (first told)) (number-2 told) (unclosed (c .before)),
       tt,
     )
 
