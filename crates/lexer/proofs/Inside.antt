@@ -8,7 +8,8 @@ use lib.ListN.{length}
 use Rattle.lexer.specs.declared.Kind.{Kind}
 use Rattle.lexer.specs.declared.Kind.the-variants.{Plain, Mark, Refused}
 use Rattle.lexer.specs.Bytes.{bar, asterisk, leftParenthesis, rightParenthesis, backslash, kindOf}
-use Rattle.lexer.specs.Tokens.{Token, Placed, placed, Repeat, noRepeat, badRepeat, repeat, repeatAt, One, tok, wrong, literalOf, escapedBy, escapedOf, markOf, tokenBy, tokenOf, first, lex, tokensFrom}
+use Rattle.lexer.specs.Tokens.{Token, Placed, placed, Repeat, noRepeat, badRepeat, repeat, repeatAt}
+use Rattle.lexer.specs.Tokens.{One, tok, wrong, literalOf, escapedBy, escapedOf, markOf, tokenBy, tokenOf, first, lex, tokensFrom}
 
 -- every place is at most e
 abbrev pub Inside : ℕ → List Placed → Type 0

@@ -13,7 +13,9 @@ use Rattle.rules.specs.Numbers.{textByte, repeatFault}
 use Rattle.lexer.specs.declared.Kind.{Kind}
 use Rattle.lexer.specs.declared.Kind.the-variants.{Plain, Mark, Refused}
 use Rattle.lexer.specs.Bytes.{bar, asterisk, leftParenthesis, rightParenthesis, backslash, leftBrace, rightBrace, comma, kindOf}
-use Rattle.lexer.specs.Tokens.{Token, aLiteral, aBar, aStar, anOpen, aClose, aFault, Placed, placed, starts, Number, digits, noNumber, numberAt, Repeat, noRepeat, badRepeat, repeat, closed, counted, repeatAt, One, tok, wrong, literalOf, escapedBy, escapedOf, markOf, tokenBy, tokenOf, first, lex, tokensFrom}
+use Rattle.lexer.specs.Tokens.{Token, aLiteral, aBar, aStar, anOpen, aClose, aFault, Placed, placed, starts}
+use Rattle.lexer.specs.Tokens.{Number, digits, noNumber, numberAt, Repeat, noRepeat, badRepeat, repeat, closed, counted, repeatAt}
+use Rattle.lexer.specs.Tokens.{One, tok, wrong, literalOf, escapedBy, escapedOf, markOf, tokenBy, tokenOf, first, lex, tokensFrom}
 
 -- a literal is within the range of literal bytes, and repeated rightly
 abbrev pub Literal : Token → Type 0

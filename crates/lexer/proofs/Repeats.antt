@@ -27,11 +27,12 @@ module _ (t : List ℕ) (here : ℕ) where
   next-digit : digitAt (drop 1 (drop here t)) ≡ digitAt (drop (here + 1) t)
   next-digit = rw (drop-drop 1 here t) refl
 
-  pub figure-two : (a b : ℕ) → digitAt (drop here t) ≡ true → digitAt (drop (here + 1) t) ≡ true → a ≡ getD t here 0 - digitZero → b ≡ getD t (here + 1) 0 - digitZero
-      → digits (10 * a + b) 2 ≡ numberAt (drop here t)
+  pub figure-two : (a b : ℕ) → digitAt (drop here t) ≡ true → digitAt (drop (here + 1) t) ≡ true → a ≡ getD t here 0 - digitZero
+      → b ≡ getD t (here + 1) 0 - digitZero → digits (10 * a + b) 2 ≡ numberAt (drop here t)
   figure-two a b d e p q = rw (d, next-digit, e, getD-drop here t 0 0, getD-drop here t 1 0, add-zero here, p, q) refl
 
-  pub figure-one : (a : ℕ) → digitAt (drop here t) ≡ true → digitAt (drop (here + 1) t) ≡ false → a ≡ getD t here 0 - digitZero → digits a 1 ≡ numberAt (drop here t)
+  pub figure-one : (a : ℕ) → digitAt (drop here t) ≡ true → digitAt (drop (here + 1) t) ≡ false → a ≡ getD t here 0 - digitZero
+      → digits a 1 ≡ numberAt (drop here t)
   figure-one a d e p = rw (d, next-digit, e, getD-drop here t 0 0, add-zero here, p) refl
 
   pub figure-none : digitAt (drop here t) ≡ false → noNumber ≡ numberAt (drop here t)

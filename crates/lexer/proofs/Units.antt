@@ -1,7 +1,7 @@
 -- From the byte where a unit other than a parenthesis starts to its token: one law for each answer of the functions that read it.
 use mathlib.Core.Path.{_≡_, refl, ap, sym, _∙_}
-use mathlib.Core.Bool.{Bool, true, false, true≢false, _&&_, not}
-use mathlib.Core.List.{List, [], _∷_}
+use mathlib.Core.Bool.{true, false, true≢false, _&&_, not}
+use mathlib.Core.List.{List, _∷_}
 use Prim.Native.Nat.{ℕ, _+_, _<_, _≤_}
 use native.Mathlib.Nat.{add-zero}
 use native.Mathlib.Omega.{arith}
@@ -16,7 +16,7 @@ use Rattle.lexer.specs.declared.Kind.the-variants.{Plain, Mark, Refused}
 use Rattle.lexer.specs.declared.Literal.{Literal}
 use Rattle.lexer.specs.declared.Literal.the-variants.{Of, Fault}
 use Rattle.lexer.specs.Bytes.{bar, asterisk, leftParenthesis, rightParenthesis, backslash, leftBrace, kindOf}
-use Rattle.lexer.specs.Tokens.{Repeat, noRepeat, badRepeat, repeat, repeatAt, aLiteral, placed, One, wrong, literalOf, escapedBy, escapedOf, starts, tokenOf, tokensFrom}
+use Rattle.lexer.specs.Tokens.{Repeat, noRepeat, badRepeat, repeat, repeatAt, aLiteral, placed, wrong, literalOf, escapedBy, escapedOf, starts, tokenOf, tokensFrom}
 use Rattle.lexer.specs.Places.{startsUnit, unitAt, isPlain, plainAt, literalWith, LiteralFits, LiteralIs}
 use Rattle.lexer.proofs.Front.{front-in, front-inside, byte-inside, byte-is, tokens-token, tokens-wrong}
 
@@ -70,11 +70,12 @@ module _ (t : List ℕ) (here : ℕ) where
     pub unit-inside : here < length t
     unit-inside = front-inside unitAt t here refl u
 
-    pub literal-brace : starts (drop here t) leftParenthesis ≡ false → kindOf (getD t here 0) ≡ Mark → (getD t here 0 ≡ backslash → ⊥) → LiteralIs t here (Fault (at here repeatFault))
+    pub literal-brace : starts (drop here t) leftParenthesis ≡ false → kindOf (getD t here 0) ≡ Mark → (getD t here 0 ≡ backslash → ⊥)
+        → LiteralIs t here (Fault (at here repeatFault))
     literal-brace p k n =
         let o =
-            other (getD t here 0) (front-in unitAt t here unit-inside ∙ u)
-            (front-in (λ (s : List ℕ). starts s leftParenthesis) t here unit-inside ∙ p) in
+        other (getD t here 0) (front-in unitAt t here unit-inside ∙ u)
+        (front-in (λ (s : List ℕ). starts s leftParenthesis) t here unit-inside ∙ p) in
         fault-here unit-inside repeatFault (rw (k, o .no-bar, o .no-star, o .no-open, o .no-close, ne-eqb (getD t here 0) backslash n) refl)
 
   -- after a backslash
@@ -85,20 +86,21 @@ module _ (t : List ℕ) (here : ℕ) where
     pub escaped-end : length t ≤ here + 1 → LiteralIs t here (Fault (at here textByte))
     escaped-end h = fault-here (byte-inside t here backslash e) textByte (after ∙ ap escapedOf (drop-of-length-le t {i = here + 1} h))
 
-    module _ (h : here + 1 < length t) {k : Kind} (m : kindOf (getD t (here + 1) 0) ≡ k) where
-      byKind : tokenOf (getD t here 0) (drop (here + 1) t) ≡ escapedBy k (getD t (here + 1) 0) (drop (here + 1 + 1) t)
-      byKind = after ∙ sym (front-in escapedOf t (here + 1) h) ∙ rw m refl
+    module _ (h : here + 1 < length t) where
+      by : {k : Kind} → kindOf (getD t (here + 1) 0) ≡ k → tokenOf (getD t here 0) (drop (here + 1) t) ≡ escapedBy k (getD t (here + 1) 0) (drop (here + 1 + 1) t)
+      by m = after ∙ sym (front-in escapedOf t (here + 1) h) ∙ rw m refl
 
-      pub escaped-mark : k ≡ Mark → (q : Literal) → q ≡ literalWith (getD t (here + 1) 0) (here + 2) (repeatAt (drop (here + 2) t)) → LiteralFits (length t) (here + 2) q → LiteralIs t here q
-      escaped-mark c q w f =
+      pub escaped-mark : (q : Literal) → kindOf (getD t (here + 1) 0) ≡ Mark → q ≡ literalWith (getD t (here + 1) 0) (here + 2) (repeatAt (drop (here + 2) t))
+          → LiteralFits (length t) (here + 2) q → LiteralIs t here q
+      escaped-mark q m w f =
           let z : here + 2 ≡ here + 1 + 1 = omega arith in
-          taken (byte-inside t here backslash e) (getD t (here + 1) 0) 1 (repeatAt (drop (here + 1 + 1) t)) q (rw z at w) (rw z at f) (byKind ∙ rw c refl)
+          taken (byte-inside t here backslash e) (getD t (here + 1) 0) 1 (repeatAt (drop (here + 1 + 1) t)) q (rw z at w) (rw z at f) (by m)
 
-      pub escaped-plain : k ≡ Plain → LiteralIs t here (Fault (at here textByte))
-      escaped-plain c = fault-here (byte-inside t here backslash e) textByte (byKind ∙ rw c refl)
+      pub escaped-plain : kindOf (getD t (here + 1) 0) ≡ Plain → LiteralIs t here (Fault (at here textByte))
+      escaped-plain m = fault-here (byte-inside t here backslash e) textByte (by m)
 
-      pub escaped-refused : k ≡ Refused → LiteralIs t here (Fault (at here textByte))
-      escaped-refused c = fault-here (byte-inside t here backslash e) textByte (byKind ∙ rw c refl)
+      pub escaped-refused : kindOf (getD t (here + 1) 0) ≡ Refused → LiteralIs t here (Fault (at here textByte))
+      escaped-refused m = fault-here (byte-inside t here backslash e) textByte (by m)
 
 -- the short way: no mark, and no repeat
 module _ (t : List ℕ) (here : ℕ) (h : here < length t) where

@@ -88,8 +88,9 @@ module _ (t : List ℕ) (here : ℕ) where
             inside = omega arith;
           }
 
--- THE FIRST WALK
-pub walk-on : {t : List ℕ} {i next y : ℕ} → Stepped t i next y → lexical (tokensFrom t i) ≡ lexical (tokensFrom t 0) → lexical (tokensFrom t next) ≡ lexical (tokensFrom t 0)
+-- THE WALK OF 11 AND 19
+pub walk-on : {t : List ℕ} {i next y : ℕ} → Stepped t i next y → lexical (tokensFrom t i) ≡ lexical (tokensFrom t 0)
+    → lexical (tokensFrom t next) ≡ lexical (tokensFrom t 0)
 walk-on {t} {next = next} s e = sym (s .sound (tokensFrom t next)) ∙ ap lexical (sym (s .front)) ∙ e
 
 pub walk-stopped : (t : List ℕ) (i : ℕ) (f : Refusal) → Faulty t i f → lexical (tokensFrom t i) ≡ lexical (tokensFrom t 0) → some f ≡ lexical (tokensFrom t 0)

@@ -21,7 +21,8 @@ use Rattle.lexer.specs.declared.Passage.the-variants.{Over, Stopped}
 use Rattle.lexer.specs.declared.Scan.{Scan}
 use Rattle.lexer.specs.declared.Scan.the-variants.{Clean, Found}
 use Rattle.lexer.specs.Bytes.{bar, asterisk, rightParenthesis, leftBrace, rightBrace, comma, kindOf}
-use Rattle.lexer.specs.Tokens.{Token, Placed, Number, digits, noNumber, Repeat, noRepeat, badRepeat, repeat, aLiteral, aFault, placed, starts, tokensFrom}
+use Rattle.lexer.specs.Tokens.{Token, aLiteral, aFault, Placed, placed, starts, tokensFrom}
+use Rattle.lexer.specs.Tokens.{Number, digits, noNumber, Repeat, noRepeat, badRepeat, repeat}
 use Rattle.lexer.specs.Faults.{lexical, leavesOf, passing}
 
 -- a unit may start with this byte: a literal, or what is no token, or an open parenthesis

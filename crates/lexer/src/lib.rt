@@ -7,7 +7,9 @@ ghost use Rattle.rules.specs.Limits.{textLimit};
 ghost use Rattle.lexer.specs.Bytes.{leftParenthesis, backslash, digitZero, kindOf, isDigit};
 ghost use Rattle.lexer.specs.Tokens.{starts, digitAt, numberAt, repeatAt, tokensFrom};
 ghost use Rattle.lexer.specs.Faults.{lexical};
-ghost use Rattle.lexer.specs.Places.{startsUnit, unitAt, plainAt, numberOf, FigureFits, closesAt, literalWith, LiteralFits, LiteralIs, PassageIs, foundIn, PassesAt};
+ghost use Rattle.lexer.specs.Places.{startsUnit, unitAt, plainAt, numberOf, FigureFits, closesAt, literalWith, LiteralFits, LiteralIs};
+ghost use Rattle.lexer.specs.Places.{PassageIs, foundIn, PassesAt};
+use buffers::wide;
 use rules::HIGHEST_BYTE;
 use rules::LEAF_LIMIT;
 use rules::LOWEST_BYTE;
@@ -15,7 +17,6 @@ use rules::REPEAT_FAULT;
 use rules::Refusal;
 use rules::TEXT_BYTE;
 use rules::refused_at;
-use buffers::wide;
 
 const DIGIT_ZERO: usize = b'0' as usize;
 
@@ -89,12 +90,6 @@ pub fn unit_at(text: &[u8], at: usize) -> bool
 fn kind_of(b: u8) -> Kind
     ensures { λ r. ⌜ r ≡ kindOf b ⌝ }
 {
-    if b < LOWEST_BYTE {
-        return Kind::Refused;
-    }
-    if HIGHEST_BYTE < b {
-        return Kind::Refused;
-    }
     if b == b'|' {
         return Kind::Mark;
     }
@@ -115,6 +110,12 @@ fn kind_of(b: u8) -> Kind
     }
     if b == b'}' {
         return Kind::Mark;
+    }
+    if b < LOWEST_BYTE {
+        return Kind::Refused;
+    }
+    if HIGHEST_BYTE < b {
+        return Kind::Refused;
     }
     Kind::Plain
 }

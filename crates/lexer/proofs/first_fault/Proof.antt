@@ -1,8 +1,8 @@
-use Prim.Native.Nat.{_≤_, _-_}
+use Prim.Native.Nat.{ℕ, _≤_, _-_}
 use borrow.Author.Needs.{needs}
 use lib.ListN.{length}
-use mathlib.Core.Option.{some}
-use mathlib.Core.Path.{refl, ap, sym, _∙_, _≡_}
+use mathlib.Core.List.{List}
+use mathlib.Core.Path.{refl, sym, _≡_}
 use native.Mathlib.Omega.{arith}
 use Rattle.lexer.specs.Faults.{lexical}
 use Rattle.lexer.specs.Places.{Stepped}
@@ -19,10 +19,17 @@ Inv-loop text i₀ i =
 abbrev μ-loop : tie.MeasureT-loop
 μ-loop text i₀ i = length text - i
 
+-- from a step back to the turn's head, and to the text
+abbrev head : tie.After-step-over Inv-loop μ-loop → tie.At-loop Inv-loop μ-loop
+head c = c .before .before
+
+abbrev text : tie.At-loop Inv-loop μ-loop → List ℕ
+text c = c .before .before .args .text .now
+
 stepped :
     (c : tie.After-s2 Inv-loop μ-loop) →
-    let head = c .before .before .before .before in
-    Stepped (head .before .before .args .text .now) (head .loop .i) (c .s2 .given .0 .0) (c .s2 .given .0 .1 .0)
+    let turn = head (c .before .before) in
+    Stepped (text turn) (turn .loop .i) (c .s2 .given .0 .0) (c .s2 .given .0 .1 .0)
 stepped c = rw (c .s2 .given .1) at (c .before .before .step-over .ensures)
 
 loop-holds : tie.Need-loop-holds Inv-loop μ-loop
@@ -36,10 +43,10 @@ enum-known-s c = search needs
 
 returns : tie.Need-returns Inv-loop μ-loop
 returns c =
-    let stopped = c .before in
-    let stepping = stopped .before .before in
-    let head = stepping .before .before in
-    walk-stopped (head .before .before .args .text .now) (head .loop .i) (stopped .s .given .0 .0) (rw (stopped .s .given .1) at (stepping .step-over .ensures)) (head .loop .inv .0)
+    let told = c .before .s .given in
+    let step = c .before .before .before in
+    let turn = head step in
+    walk-stopped (text turn) (turn .loop .i) (told .0 .0) (rw (told .1) at (step .step-over .ensures)) (turn .loop .inv .0)
 
 enum-known-s-2 : tie.Need-enum-known-s-2 Inv-loop μ-loop
 enum-known-s-2 c = search needs
@@ -48,12 +55,14 @@ loop-less : tie.Need-loop-less Inv-loop μ-loop
 loop-less c = let s = stepped (c .before) in omega (arith, s .further, s .inside)
 
 loop-again : tie.Need-loop-again Inv-loop μ-loop
-loop-again c = let s = stepped (c .before) in (walk-on s (c .before .before .before .before .before .loop .inv .0), s .inside)
+loop-again c =
+    let s = stepped (c .before) in
+    (walk-on s (head (c .before .before .before) .loop .inv .0), s .inside)
 
 returns-2 : tie.Need-returns-2 Inv-loop μ-loop
 returns-2 c =
-    let loop = c .before .loop in
-    sym (walk-end (c .before .before .before .args .text .now) (loop .i) (omega (arith, c .loop-test .left)) (loop .inv .0))
+    let turn = c .before in
+    sym (walk-end (text turn) (turn .loop .i) (omega (arith, c .loop-test .left)) (turn .loop .inv .0))
 
 pub first-fault-spec : {M : Type 1} → statement M
 first-fault-spec =

@@ -1,11 +1,10 @@
 use borrow.Author.Needs.{needs}
-use mathlib.Core.Bool.{true}
 use mathlib.Core.List.{List}
-use mathlib.Core.Path.{_≡_, _∙_, sym, refl}
+use mathlib.Core.Path.{_∙_, sym}
 use Prim.Native.Nat.{ℕ, _<_}
 use native.Mathlib.Omega.{arith}
 use borrow.Author.Tests.{eq-eqb}
-use lib.ListN.{length, drop}
+use lib.ListN.{length}
 use Rattle.lexer.proofs.Front.{front-in}
 use Rattle.lexer.proofs.Units.{unit-inside, literal-plain, literal-refused, literal-brace}
 use Rattle.lexer.specs.Bytes.{backslash}
@@ -13,7 +12,8 @@ use Rattle.lexer.specs.Tokens.{starts}
 use Rattle.lexer.proofs.literal_at.Statement.{statement}
 use Rattle.lexer.proofs.literal_at.Tie as tie
 
--- from where the byte's kind was asked back to the start
+-- the byte's kind decides, and of the marks that may stand here only a backslash goes on
+-- from where the kind was asked back to the start
 abbrev start : tie.After-kind-of → tie.Start
 start c = c .before .before .before
 
@@ -39,7 +39,8 @@ returns : tie.Need-returns
 returns c =
     let asked = c .before .before .before in
     let s = start asked in
-    literal-plain (s .args .text .now) (s .args .at) (inside s) (c .repeated .result) (sym (asked .kind-of .ensures) ∙ c .before .enum-told .given .1) (c .repeated .ensures .0) (c .repeated .ensures .1)
+    let kind = sym (asked .kind-of .ensures) ∙ c .before .enum-told .given .1 in
+    literal-plain (s .args .text .now) (s .args .at) (inside s) (c .repeated .result) kind (c .repeated .ensures .0) (c .repeated .ensures .1)
 
 enum-told-2 : tie.Need-enum-told-2
 enum-told-2 c = search needs
@@ -47,9 +48,8 @@ enum-told-2 c = search needs
 escaped-requires : tie.Need-escaped-requires
 escaped-requires c κs =
     let s = start (c .before .before .before) in
-    let text = s .args .text .now in
-    let place = s .args .at in
-    (s .pre .0, sym (front-in (λ (bytes : List ℕ). starts bytes backslash) text place (inside s)) ∙ eq-eqb _ backslash (c .if1 .taken))
+    let here = front-in (λ (bytes : List ℕ). starts bytes backslash) (s .args .text .now) (s .args .at) (inside s) in
+    (s .pre .0, sym here ∙ eq-eqb _ backslash (c .if1 .taken))
 
 returns-2 : tie.Need-returns-2
 returns-2 c = c .escaped .ensures
@@ -62,7 +62,8 @@ returns-3 c =
     let marked = c .before .before in
     let asked = marked .before .before in
     let s = start asked in
-    rw (c .refused-at .ensures) (literal-brace (s .args .text .now) (s .args .at) (s .pre .1) (s .pre .2) (sym (asked .kind-of .ensures) ∙ marked .enum-told2 .given .1) (c .before .if1 .left))
+    let kind = sym (asked .kind-of .ensures) ∙ marked .enum-told2 .given .1 in
+    rw (c .refused-at .ensures) (literal-brace (s .args .text .now) (s .args .at) (s .pre .1) (s .pre .2) kind (c .before .if1 .left))
 
 enum-told-3 : tie.Need-enum-told-3
 enum-told-3 c = search needs
@@ -74,7 +75,8 @@ returns-4 : tie.Need-returns-4
 returns-4 c =
     let asked = c .before .before .before in
     let s = start asked in
-    rw (c .refused-at2 .ensures) (literal-refused (s .args .text .now) (s .args .at) (inside s) (sym (asked .kind-of .ensures) ∙ c .before .enum-told3 .given .1))
+    let kind = sym (asked .kind-of .ensures) ∙ c .before .enum-told3 .given .1 in
+    rw (c .refused-at2 .ensures) (literal-refused (s .args .text .now) (s .args .at) (inside s) kind)
 
 pub literal-at-spec : {M : Type 1} → statement M
 literal-at-spec =

@@ -14,6 +14,7 @@ use Rattle.lexer.proofs.Repeats.{repeat-first, repeat-second, closes-in
 use Rattle.lexer.proofs.repeated.Statement.{statement}
 use Rattle.lexer.proofs.repeated.Tie as tie
 
+-- a brace, a number, a comma, a number, a brace: each way out cites the law of the first that is missing
 -- from the second number back to the first, and to the start
 abbrev first : tie.After-o → tie.After-q
 first c = c .before .before .before .before
@@ -160,7 +161,7 @@ returns-4 c =
     let told = c .before .before .before .before in
     let args = start (first told) .args in (
       ap Fault (c .refused-at3 .ensures)
-      ∙ repeat-bad (args .text .now) (args .b) (args .at) (brace (first told)) (number (first told)) (number-2 told) (unclosed (c .before)),
+          ∙ repeat-bad (args .text .now) (args .b) (args .at) (brace (first told)) (number (first told)) (number-2 told) (unclosed (c .before)),
       tt,
     )
 

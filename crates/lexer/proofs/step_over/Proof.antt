@@ -4,6 +4,11 @@ use Rattle.lexer.proofs.Walks.{step-open, step-literal, step-mark}
 use Rattle.lexer.proofs.step_over.Statement.{statement}
 use Rattle.lexer.proofs.step_over.Tie as tie
 
+-- an open parenthesis, a literal or a fault, or one of the other marks: where no unit starts it is one of these
+-- from where no open parenthesis stands back to the start
+abbrev start : tie.Else1 → tie.Start
+start c = c .before .before .before
+
 is-requires : tie.Need-is-requires
 is-requires c κs = search needs
 
@@ -13,7 +18,7 @@ add-t10 c = search needs
 returns : tie.Need-returns
 returns c =
     let args = c .before .before .before .args in
-    step-open (args .text .now) (args .at) (sym ((c .before .is) .ensures) ∙ (c .if1) .taken)
+    step-open (args .text .now) (args .at) (sym (c .before .is .ensures) ∙ c .if1 .taken)
 
 unit-at-requires : tie.Need-unit-at-requires
 unit-at-requires c κs = search needs
@@ -21,7 +26,7 @@ unit-at-requires c κs = search needs
 literal-at-requires : tie.Need-literal-at-requires
 literal-at-requires c κs =
     let unopened = c .before .before in
-    (unopened .before .before .before .pre .1, sym (c .before .unit-at .ensures) ∙ c .if2 .taken, sym (unopened .before .is .ensures) ∙ unopened .if1 .left)
+    (start unopened .pre .1, sym (c .before .unit-at .ensures) ∙ c .if2 .taken, sym (unopened .before .is .ensures) ∙ unopened .if1 .left)
 
 enum-known-q : tie.Need-enum-known-q
 enum-known-q c = search needs
@@ -35,7 +40,7 @@ enum-known-q-2 c = search needs
 returns-3 : tie.Need-returns-3
 returns-3 c =
     let read = c .before .before .before in
-    let args = read .before .before .before .before .before .before .args in
+    let args = start (read .before .before .before) .args in
     step-literal (args .text .now) (args .at) (rw (c .before .q2 .given .1) at (read .literal-at .ensures))
 
 add-t12 : tie.Need-add-t12
@@ -43,9 +48,8 @@ add-t12 c = search needs
 
 returns-4 : tie.Need-returns-4
 returns-4 c =
-    let args = c .before .before .before .before .before .args in
-    let pre = c .before .before .before .before .before .pre in
-    step-mark (args .text .now) (args .at) (pre .0) (sym ((c .before .unit-at) .ensures) ∙ (c .if2) .left)
+    let s = start (c .before .before) in
+    step-mark (s .args .text .now) (s .args .at) (s .pre .0) (sym (c .before .unit-at .ensures) ∙ c .if2 .left)
 
 pub step-over-spec : {M : Type 1} → statement M
 step-over-spec =
