@@ -11,6 +11,7 @@ use lib.ListN.{length, replicate, set, length-append}
 use lib.Dec.{ltb}
 use borrow.Author.Tests.{lt-ltb, le-ltb}
 use Rattle.language.specs.Tree.{Tree, cat}
+use Rattle.sheet.specs.Nodes.{leafNode, emptyNode, catNode, unionNode}
 use Rattle.sheet.specs.Make.{postorder}
 use Rattle.buffers.specs.Wrote.{Wrote, opIf}
 use Rattle.buffers.proofs.Stores.{wrote-one, wrote-both, wrote-as, op-short}
@@ -18,15 +19,15 @@ use Rattle.repeats.specs.Copies.{catFrom, catAll, copy, copies}
 
 -- ONE COPY
 module _ (n : ℕ) (xs ys : List ℕ) (b : ℕ) {sure : Bool} where
-  pub copy-sure : sure ≡ true → ys ≡ set xs n 0 → Wrote n xs (n + 1) ys (postorder (copy b sure))
-  copy-sure e d = rw e (wrote-one n xs ys 0 d)
+  pub copy-sure : sure ≡ true → ys ≡ set xs n leafNode → Wrote n xs (n + 1) ys (postorder (copy b sure))
+  copy-sure e d = rw e (wrote-one n xs ys leafNode d)
 
-  pub copy-free : (zs ws : List ℕ) → sure ≡ false → ys ≡ set xs n 0 → zs ≡ set ys (n + 1) 1 → ws ≡ set zs (n + 2) 3 → Wrote n xs (n + 3) ws (postorder (copy b sure))
+  pub copy-free : (zs ws : List ℕ) → sure ≡ false → ys ≡ set xs n leafNode → zs ≡ set ys (n + 1) emptyNode → ws ≡ set zs (n + 2) unionNode → Wrote n xs (n + 3) ws (postorder (copy b sure))
   copy-free zs ws e p q r =
       let i : n + 1 + 1 ≡ n + 2 = omega arith in
       let j : n + 2 + 1 ≡ n + 3 = omega arith in
-      let two : Wrote n xs (n + 2) zs (0 ∷ 1 ∷ []) = rw i at (wrote-both (wrote-one n xs ys 0 p) (wrote-one (n + 1) ys zs 1 q)) in
-      rw e (rw j at (wrote-both two (wrote-one (n + 2) zs ws 3 r)))
+      let two : Wrote n xs (n + 2) zs (leafNode ∷ emptyNode ∷ []) = rw i at (wrote-both (wrote-one n xs ys leafNode p) (wrote-one (n + 1) ys zs emptyNode q)) in
+      rw e (rw j at (wrote-both two (wrote-one (n + 2) zs ws unionNode r)))
 
 pub copy-short : (b : ℕ) (sure : Bool) → length (postorder (copy b sure)) ≤ 3
 copy-short b true = omega arith
@@ -37,14 +38,14 @@ copy-short b false = omega arith
 module _ (b x : ℕ) where
   -- the i-th copy, each but the first with its concatenation; k copies from the i-th on
   abbrev pub step : ℕ → List ℕ
-  step i = postorder (copy b (ltb i x)) ++ opIf (ltb 0 i) 2
+  step i = postorder (copy b (ltb i x)) ++ opIf (ltb 0 i) catNode
 
   abbrev pub steps : ℕ → ℕ → List ℕ
   steps i zero = []
   steps i (suc k) = step i ++ steps (suc i) k
 
   step-short : (i : ℕ) → length (step i) ≤ 4
-  step-short i = omega (arith, length-append (postorder (copy b (ltb i x))) (opIf (ltb 0 i) 2), copy-short b (ltb i x), op-short (ltb 0 i) 2)
+  step-short i = omega (arith, length-append (postorder (copy b (ltb i x))) (opIf (ltb 0 i) catNode), copy-short b (ltb i x), op-short (ltb 0 i) 2)
 
   pub steps-short : (i k : ℕ) → length (steps i k) ≤ 4 * k
   steps-short i zero = omega arith
@@ -96,7 +97,7 @@ module _ (b x : ℕ) where
       rw (all, more-nodes (copy b (ltb 0 x)) 0 k, append-nil (postorder (copy b (ltb 0 x)))) refl
 
 -- none: the empty word
-pub no-copies : (b x y : ℕ) → x ≤ y → y ≡ 0 → postorder (copies b x y) ≡ 1 ∷ []
+pub no-copies : (b x y : ℕ) → x ≤ y → y ≡ 0 → postorder (copies b x y) ≡ emptyNode ∷ []
 no-copies b x y h e = let z : x ≡ 0 = omega arith in rw (e, z) refl
 
 -- a repeat has few nodes

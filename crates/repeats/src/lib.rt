@@ -5,6 +5,7 @@ ghost use Prim.Native.Nat.{ℕ, _+_, _<_, _≤_};
 ghost use lib.Dec.{ltb};
 ghost use Rattle.rules.specs.Limits.{mostCopies, nodesAByte, countLimit};
 ghost use Rattle.buffers.specs.Wrote.{Wrote, opIf};
+ghost use Rattle.sheet.specs.Nodes.{catNode};
 ghost use Rattle.sheet.specs.Make.{postorder};
 ghost use Rattle.repeats.specs.Copies.{copy, copies};
 use buffers::emit;
@@ -31,7 +32,7 @@ fn option(nodes: &mut [u8], n: usize, sure: bool) -> usize
 // The i-th copy, of which the first x must stand; each but the first with its concatenation.
 fn next_copy(nodes: &mut [u8], n: usize, i: usize, x: usize) -> usize
     requires { ⌜ n + 4 ≤ countLimit ⌝ }
-    ensures { λ r. ⌜ ((b : ℕ) → Wrote n (now (nodes .entry)) r (now (nodes .exit)) (postorder (copy b (ltb i x)) ++ opIf (ltb 0 i) 2)) ⌝ }
+    ensures { λ r. ⌜ ((b : ℕ) → Wrote n (now (nodes .entry)) r (now (nodes .exit)) (postorder (copy b (ltb i x)) ++ opIf (ltb 0 i) catNode)) ⌝ }
 {
     let m = option(nodes, n, i < x);
     emit_if(nodes, m, 0 < i, CAT_NODE)

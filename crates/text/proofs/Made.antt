@@ -16,7 +16,8 @@ use Rattle.lexer.specs.Faults.{leavesOf, passing}
 use Rattle.lexer.proofs.Walks.{total, passed-total}
 use Rattle.lexer.proofs.Literals.{Writable, writable}
 use Rattle.sheet.specs.Make.{leaves, postorder, sheetOf}
-use Rattle.sheet.specs.Refusals.{anyOf, sheetRefusal}
+use Rattle.sheet.specs.Nodes.{anyOf}
+use Rattle.sheet.specs.Refusals.{sheetRefusal}
 use Rattle.sheet.proofs.Own.{length-leaves, own-accepted, any-append}
 use Rattle.repeats.specs.Copies.{copies}
 use Rattle.repeats.proofs.Leaves.{copies-leaves}

@@ -13,6 +13,7 @@ use Rattle.rules.specs.Fault.{at}
 use Rattle.buffers.specs.Wrote.{Wrote, opIf}
 use Rattle.buffers.proofs.Stores.{wrote-none, wrote-one, wrote-both, wrote-as}
 use Rattle.language.specs.Tree.{Tree, leaf, empty, cat, alt, star}
+use Rattle.sheet.specs.Nodes.{leafNode, emptyNode, catNode, unionNode, starNode}
 use Rattle.sheet.specs.Make.{postorder, leaves}
 use Rattle.lexer.specs.Bytes.{bar, asterisk, leftParenthesis, rightParenthesis}
 use Rattle.lexer.specs.Tokens.{placed, aClose, starts, tokensFrom}
@@ -32,11 +33,11 @@ more p i n l = record { place = p .place + i; nodes = p .nodes + n; leaves = p .
 
 -- A UNIT
 module _ {t : List ℕ} {d : ℕ} {from : Progress} {xs ys bs cs : List ℕ} where
-  pub part-plain : plainAt (drop (from .place) t) ≡ true → ys ≡ set xs (from .nodes) 0 → cs ≡ set bs (from .leaves) (getD t (from .place) 0)
+  pub part-plain : plainAt (drop (from .place) t) ≡ true → ys ≡ set xs (from .nodes) leafNode → cs ≡ set bs (from .leaves) (getD t (from .place) 0)
       → Part t d (state from xs bs) (state (more from 1 1 1) ys cs)
   part-plain e w v = record {
     made = leaf (getD t (from .place) 0);
-    stored = record { nodes = wrote-one (from .nodes) xs ys 0 w; lits = wrote-one (from .leaves) bs cs (getD t (from .place) 0) v };
+    stored = record { nodes = wrote-one (from .nodes) xs ys leafNode w; lits = wrote-one (from .leaves) bs cs (getD t (from .place) 0) v };
     walk = λ f gs. rw (tokens-plain t (from .place) e) refl;
   }
 
@@ -54,14 +55,14 @@ pub record Opens (t : List ℕ) (d e : ℕ) (from : Progress) : Type 0 where
   pub bracket : starts (drop (from .place) t) leftParenthesis ≡ true
 
 module _ {t : List ℕ} {d e : ℕ} {from : Progress} (o : Opens t d e from) where
-  pub part-void : {xs ys bs : List ℕ} → starts (drop (from .place + 1) t) rightParenthesis ≡ true → ys ≡ set xs (from .nodes) 1
+  pub part-void : {xs ys bs : List ℕ} → starts (drop (from .place + 1) t) rightParenthesis ≡ true → ys ≡ set xs (from .nodes) emptyNode
       → Part t d (state from xs bs) (state (record { place = from .place + 2; nodes = from .nodes + 1; leaves = from .leaves }) ys bs)
   part-void {xs} {ys} {bs} c w =
       let z : from .place + 1 + 1 ≡ from .place + 2 = omega arith in
       let g : tokensFrom t (from .place + 1) ≡ placed (from .place + 1) aClose ∷ tokensFrom t (from .place + 2) = rw z at (tokens-close t (from .place + 1) c) in
       record {
         made = empty;
-        stored = record { nodes = wrote-one (from .nodes) xs ys 1 w; lits = wrote-none (from .leaves) bs };
+        stored = record { nodes = wrote-one (from .nodes) xs ys emptyNode w; lits = wrote-none (from .leaves) bs };
         walk = λ f gs. rw (tokens-open t (from .place) (o .bracket), o .deeper, g) refl;
       }
 
@@ -86,13 +87,13 @@ module _ {t : List ℕ} {d e : ℕ} {from : Progress} (o : Opens t d e from) whe
 
 -- a star after it
 pub part-star : {t : List ℕ} {d : ℕ} {o : State} {p : Progress} {ys bs zs : List ℕ}
-    → Part t d o (state p ys bs) → starts (drop (p .place) t) asterisk ≡ true → zs ≡ set ys (p .nodes) 4
+    → Part t d o (state p ys bs) → starts (drop (p .place) t) asterisk ≡ true → zs ≡ set ys (p .nodes) starNode
     → Part t d o (state (record { place = p .place + 1; nodes = p .nodes + 1; leaves = p .leaves }) zs bs)
 part-star {t} {d} {p = p} {ys} {zs = zs} w e z =
     let here = p .place in
     record {
       made = star (w .made);
-      stored = record { nodes = wrote-both (w .stored .nodes) (wrote-one (p .nodes) ys zs 4 z); lits = w .stored .lits };
+      stored = record { nodes = wrote-both (w .stored .nodes) (wrote-one (p .nodes) ys zs starNode z); lits = w .stored .lits };
       walk = λ f gs. w .walk f gs ∙ rw (tokens-star t here e) (starred-put (length t) d here (w .made) (tokensFrom t (here + 1)) f gs);
     }
 
@@ -163,11 +164,11 @@ module _ {t : List ℕ} {d : ℕ} {o : State} where
   }
 
   module _ {again : Bool} {p : State} (w : SeqSoFar again t d o p) where
-    pub seq-unit : {q : Progress} {n : ℕ} {ys ws cs : List ℕ} → Part t d p (state q ys cs) → Wrote (q .nodes) ys n ws (opIf again 2) → SeqPart t d o (state (counting q n) ws cs)
+    pub seq-unit : {q : Progress} {n : ℕ} {ys ws cs : List ℕ} → Part t d p (state q ys cs) → Wrote (q .nodes) ys n ws (opIf again catNode) → SeqPart t d o (state (counting q n) ws cs)
     seq-unit {q} v e = record {
       s = w .before;
       u = v .made;
-      stored = joined cat 2 (λ r t. refl) (λ r t. refl) (w .before) (v .made) (w .flag) (w .stored) (v .stored) e;
+      stored = joined cat catNode (λ r t. refl) (λ r t. refl) (w .before) (v .made) (w .flag) (w .stored) (v .stored) e;
       walk = λ a gs. w .walk a gs ∙ v .walk (w .frame a) gs ∙ ap (λ (f : Frame). go t d (q .place) f gs) (w .puts a (v .made));
     }
 
@@ -199,12 +200,12 @@ module _ {t : List ℕ} {d : ℕ} {o : State} where
   alt-starts = record { before = none; flag = refl; stored = nothing-stored o; walk = λ gs. refl; ready = λ gs r. r }
 
   module _ {again : Bool} {p : State} (w : AltSoFar again t d o p) where
-    pub alt-sequence : {q : Progress} {n : ℕ} {ys ws cs : List ℕ} → SeqPart t d p (state q ys cs) → Wrote (q .nodes) ys n ws (opIf again 3) → AltPart t d o (state (counting q n) ws cs)
+    pub alt-sequence : {q : Progress} {n : ℕ} {ys ws cs : List ℕ} → SeqPart t d p (state q ys cs) → Wrote (q .nodes) ys n ws (opIf again unionNode) → AltPart t d o (state (counting q n) ws cs)
     alt-sequence v e = record {
       a = w .before;
       s = v .s;
       u = v .u;
-      stored = joined alt 3 (λ r t. refl) (λ r t. refl) (w .before) (after cat (v .s) (v .u)) (w .flag) (w .stored) (v .stored) e;
+      stored = joined alt unionNode (λ r t. refl) (λ r t. refl) (w .before) (after cat (v .s) (v .u)) (w .flag) (w .stored) (v .stored) e;
       walk = λ gs. w .walk gs ∙ v .walk (w .before) gs;
     }
 

@@ -6,6 +6,7 @@ use native.Mathlib.Omega.{arith}
 use Prim.Native.Nat.{ℕ, _-_, _≤_}
 use Rattle.buffers.proofs.Stores.{wrote-none, wrote-one, wrote-as}
 use Rattle.buffers.specs.Wrote.{Wrote}
+use Rattle.sheet.specs.Nodes.{emptyNode}
 use Rattle.repeats.proofs.Copies.{steps, steps-short, copied-on, copies-nodes, no-copies}
 use Rattle.repeats.proofs.repeat.Statement.{statement}
 use Rattle.repeats.proofs.repeat.Tie as tie
@@ -30,7 +31,7 @@ returns c =
     let emit = c .before .before .emit in
     let none = c .before .before .before .before in
     let start = none .before .before in
-    λ b. wrote-as (sym (no-copies b (start .args .x) (start .args .y) (start .pre .1) (none .if1 .taken))) (wrote-one (start .args .n) (start .args .nodes .now) (emit .last .0) 1 (emit .ensures))
+    λ b. wrote-as (sym (no-copies b (start .args .x) (start .args .y) (start .pre .1) (none .if1 .taken))) (wrote-one (start .args .n) (start .args .nodes .now) (emit .last .0) emptyNode (emit .ensures))
 
 loop-holds : tie.Need-loop-holds Inv-loop μ-loop
 loop-holds c = (λ b. wrote-none (c .before .before .args .n) (c .before .before .args .nodes .now), refl, omega arith)

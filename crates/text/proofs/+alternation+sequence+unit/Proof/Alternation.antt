@@ -10,6 +10,7 @@ use Rattle.buffers.proofs.Stores.{op-short}
 use Rattle.lexer.proofs.Front.{byte-inside}
 use Rattle.lexer.specs.Bytes.{bar}
 use Rattle.lexer.specs.Tokens.{starts}
+use Rattle.sheet.specs.Nodes.{unionNode}
 use Rattle.text.specs.declared.Progress.{Progress}
 use Rattle.text.specs.declared.Read.the-variants.{Done}
 use Rattle.text.specs.Reads.{state, Onward, AltPart, SeqRead}
@@ -79,7 +80,7 @@ module _ (t : ℕ) where
       let told = match c in
       let loop = head told .loop in
       let stored = c .emit-if .ensures in
-      (alt-sequence (loop .inv .0) (read told .0) stored, with-operator 0 (read told .3) (loop .inv .1 .along) stored (op-short (loop .again) 3))
+      (alt-sequence (loop .inv .0) (read told .0) stored, with-operator 0 (read told .3) (loop .inv .1 .along) stored (op-short (loop .again) unionNode))
 
   -- a bar follows
   bar-follows : (c : At lts.Else1) → starts (drop (end (told c) .place) (start (told c) .args .text .now)) bar ≡ true

@@ -6,6 +6,7 @@ use lib.ListN.{length}
 use mathlib.Core.Path.{sym, _∙_}
 use native.Mathlib.Omega.{arith}
 use Rattle.buffers.proofs.Stores.{op-short}
+use Rattle.sheet.specs.Nodes.{catNode}
 use Rattle.text.specs.declared.Progress.{Progress}
 use Rattle.text.specs.declared.Read.the-variants.{Done}
 use Rattle.text.specs.Reads.{state, Onward, SeqPart, UnitRead}
@@ -71,7 +72,7 @@ module _ (t : ℕ) where
       let told = match c in
       let loop = head told .loop in
       let stored = c .emit-if .ensures in
-      (seq-unit (loop .inv .0) (read told .0) stored, with-operator 1 (read told .2) (loop .inv .1 .along) stored (op-short (loop .again) 2))
+      (seq-unit (loop .inv .0) (read told .0) stored, with-operator 1 (read told .2) (loop .inv .1 .along) stored (op-short (loop .again) catNode))
 
   loop-holds : At lts.Need-loop-holds
   loop-holds c = (seq-starts, turn-starts (c .before .before .before .pre .1 .0))
