@@ -1,3 +1,1 @@
-pub mod Walks
-pub mod Laid
 pub mod Call

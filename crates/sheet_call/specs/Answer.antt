@@ -2,8 +2,8 @@
 use mathlib.Core.List.{List}
 use Prim.Native.Nat.{ℕ}
 use Rattle.rules.specs.Numbers.{done}
-use Rattle.maker.specs.declared.SheetAnswer.{SheetAnswer}
-use Rattle.maker.specs.declared.SheetAnswer.the-variants.{Made, Refused}
+use Rattle.sheet_call.specs.declared.SheetAnswer.{SheetAnswer}
+use Rattle.sheet_call.specs.declared.SheetAnswer.the-variants.{Made, Refused}
 use Rattle.text.specs.Outcome.{SheetEnd}
 
 abbrev pub sheetEnd : SheetAnswer → List ℕ → SheetEnd

@@ -74,7 +74,5 @@ pub turn-goes-on : {t : List ℕ} {o p : State} {q : Progress} {s : ℕ} {ys cs 
 turn-goes-on w o e f = record { along = omega (arith, o .further); begun = begun o (w .begun .short); nodes = e ∙ w .nodes; lits = f ∙ w .lits }
 
 -- A WHOLE TEXT
-pub text-done : {t xs bs ys cs : List ℕ} {p : Progress} → AltRead t openLimit (state nothingRead xs bs) ys cs (Done p) → length t ≤ textLimit
-    → starts (drop (p .place) t) rightParenthesis ≡ false → TextRead t xs bs ys cs (Done p)
-text-done {t} {p = p} (w, e, n) h c =
-    (whole w (at-end t (p .place) e c), record { nodes = omega (arith, n .nodes, n .inside); leaves = omega (arith, n .leaves, n .inside) })
+pub text-done : {t xs bs ys cs : List ℕ} {p : Progress} → AltRead t openLimit (state nothingRead xs bs) ys cs (Done p) → starts (drop (p .place) t) rightParenthesis ≡ false → TextRead t xs bs ys cs (Done p)
+text-done {t} {p = p} (w, e, n) c = whole w (at-end t (p .place) e c)

@@ -120,11 +120,6 @@ pub record Whole (t : List ℕ) (o p : State) : Type 0 where
   pub found : parse t ≡ tree made
   pub stored : Stored o p (postorder made) (leaves made)
 
--- no more was counted than a text makes
-pub record Counted (p : Progress) : Type 0 where
-  pub nodes : p .nodes ≤ nodesAByte * textLimit
-  pub leaves : p .leaves ≤ leavesAByte * textLimit
-
 abbrev pub TextRead : List ℕ → List ℕ → List ℕ → List ℕ → List ℕ → Read → Type 0
-TextRead t xs bs ys cs (Done p) = Whole t (state nothingRead xs bs) (state p ys cs) × Counted p
+TextRead t xs bs ys cs (Done p) = Whole t (state nothingRead xs bs) (state p ys cs)
 TextRead t xs bs ys cs (Refused k) = parse t ≡ fault k

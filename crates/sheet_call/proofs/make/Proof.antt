@@ -1,19 +1,13 @@
+-- A long text; else what the readers say of it, or what is made of what they read.
 use borrow.Author.Needs.{needs}
 use lib.ListN.{replicate}
-use Rattle.maker.proofs.Call.{call-refused, refusal-long}
+use Rattle.sheet_call.proofs.Call.{call-refused, refusal-long}
 use Rattle.rules.specs.Limits.{nodeLimit, leafLimit}
-use Rattle.text.specs.declared.Read.the-variants.{Done}
-use Rattle.text.specs.Reads.{TextRead}
-use Rattle.maker.proofs.make.Statement.{statement}
-use Rattle.maker.proofs.make.Tie as tie
+use Rattle.sheet_call.proofs.make.Statement.{statement}
+use Rattle.sheet_call.proofs.make.Tie as tie
 
--- the text was read
-read :
-    (c : tie.After-r2) →
-    let last = c .before .before .before .before .read-text .last in
-    TextRead (c .before .before .before .before .before .before .before .before .before .before .args .text .now) (replicate nodeLimit 0) (last .1 .0) (replicate leafLimit 0) (last .1 .1 .0)
-    (Done (c .r2 .given .0 .0) (c .r2 .given .0 .1 .0) (c .r2 .given .0 .1 .1 .0))
-read c = rw (c .r2 .given .1) at (c .before .before .before .before .read-text .ensures)
+refused-at-requires : tie.Need-refused-at-requires
+refused-at-requires c κs = search needs
 
 refuse-requires : tie.Need-refuse-requires
 refuse-requires c κs = search needs
@@ -24,8 +18,8 @@ same-length c = search needs
 returns : tie.Need-returns
 returns c =
     let refuse = c .before .before .refuse in
-    let long = c .before .before .before .before in
-    call-refused (refusal-long (long .before .before .before .args .text .now) (long .if1 .taken)) (refuse .ensures .0) (refuse .ensures .1)
+    let long = c .before .before .before .before .before in
+    call-refused (refusal-long (long .before .before .before .args .text .now) (long .if1 .taken)) (c .before .before .before .refused-at .ensures) (refuse .ensures .0) (refuse .ensures .1)
 
 slice-aggregate-read-text : tie.Need-slice-aggregate-read-text
 slice-aggregate-read-text c = search needs
@@ -61,19 +55,22 @@ slice-aggregate-answer-2 c = search needs
 
 answer-requires : tie.Need-answer-requires
 answer-requires c κs =
-    let told = c .before .before .before .before in
-    (told .before .before .before .before .before .before .before .if1 .left, search needs, search needs, read told .3, read told .2)
+    let read = c .before .before .before .before .before .before .before .before in
+    (read .before .before .before .if1 .left, search needs, search needs)
 
 same-length-3 : tie.Need-same-length-3
 same-length-3 c = search needs
 
 returns-3 : tie.Need-returns-3
-returns-3 c = c .before .before .answer .ensures (replicate nodeLimit 0) (replicate leafLimit 0) (read (c .before .before .before .before .before .before .before) .0)
+returns-3 c =
+    let told = c .before .before .before .before .before .before .before in
+    c .before .before .answer .ensures (replicate nodeLimit 0) (replicate leafLimit 0) (rw (told .r2 .given .1) at (told .before .before .before .before .read-text .ensures))
 
 pub make-spec : {M : Type 1} → statement M
 make-spec =
     tie.close
     (tie.spec
+    refused-at-requires
     refuse-requires
     same-length
     returns

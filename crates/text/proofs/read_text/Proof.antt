@@ -71,7 +71,7 @@ same-length-6 c = search needs
 returns-3 : tie.Need-returns-3
 returns-3 c =
     let told = c .before .before .before in
-    text-done (read told) (start told .pre) (sym (c .before .is .ensures) ∙ c .if1 .left)
+    text-done (read told) (sym (c .before .is .ensures) ∙ c .if1 .left)
 
 pub read-text-spec : {M : Type 1} → statement M
 read-text-spec =
