@@ -197,22 +197,16 @@ fn unit(text: &[u8], nodes: &mut [u8], lits: &mut [u8], from: Progress, allowed:
             };
             return stars(text, nodes, void);
         }
-        let inner = Progress {
-            place: at + 1,
-            nodes: from.nodes,
-            leaves: from.leaves,
-        };
+        let mut inner = from;
+        inner.place += 1;
         let r = alternation(text, nodes, lits, inner, allowed - 1);
         let Read::Done(p) = r else {
             return r;
         };
         let next = p.place;
         if is(text, next, b')') {
-            let closed = Progress {
-                place: next + 1,
-                nodes: p.nodes,
-                leaves: p.leaves,
-            };
+            let mut closed = p;
+            closed.place += 1;
             return stars(text, nodes, closed);
         }
         return Read::Refused(refused_at(next, OPEN_UNCLOSED));

@@ -59,7 +59,7 @@ module _ (t : ℕ) where
   call c = c .before .before .before .before .before .before
 
   abbrev open-at : At lts.After-r → At lts.Else2
-  open-at c = call c .before .before .before .before .before
+  open-at c = call c .before .before .before .before .before .before
 
   -- where it began, and how far the alternation goes
   abbrev given : At lts.Start → State
@@ -144,16 +144,16 @@ module _ (t : ℕ) where
       let part = part-void (opens (empty .before .before)) (closed empty) (c .before .before .before .before .before .before .before .emit .ensures) in
       c .before .before .stars .ensures (begin .args .allowed) (given begin) (begin .args .lits .now) part (void-far empty)
 
-  add-alternation : At lts.Need-add-alternation
-  add-alternation c = let b = start (c .before .before) .pre .1 .0 in omega (arith, b .inside, b .short)
+  add-inner : At lts.Need-add-inner
+  add-inner c = let b = start (c .before .before .before) .pre .1 .0 in omega (arith, b .inside, b .short)
 
   sub-alternation : At lts.Need-sub-alternation
-  sub-alternation c = omega (arith, c .before .before .before .before .if2 .left)
+  sub-alternation c = omega (arith, c .before .before .before .before .before .if2 .left)
 
   alternation-requires : At lts.Need-alternation-requires
   alternation-requires c κs =
-      let begin = start (c .before .before .before .before) in
-      let opened = opens (c .before .before .before .before) in
+      let begin = start (c .before .before .before .before .before) in
+      let opened = opens (c .before .before .before .before .before) in
       let inside = byte-inside (begin .args .text .now) (begin .args .from .place) leftParenthesis (opened .bracket) in
       (omega (arith, begin .pre .0, opened .deeper), (begun-past (begin .pre .1 .0) inside, omega (arith, begin .pre .1 .1)))
 
@@ -172,7 +172,7 @@ module _ (t : ℕ) where
   returns-3 : At lts.Need-returns-3
   returns-3 c =
       let called = c .before .before .before .before .before .before in
-      let inner = called .before .before .before in
+      let inner = called .before .before .before .before in
       let told = c .enum-told .given in
       let holds-more = sym (inner .before .is2 .ensures) ∙ inner .if3 .left in
       rw (told .1) (fails-group (opens (inner .before .before)) holds-more (told .0 .0) (rw (told .1) at (called .alternation .ensures)))
@@ -180,11 +180,11 @@ module _ (t : ℕ) where
   is-requires-3 : At lts.Need-is-requires-3
   is-requires-3 c κs = search needs
 
-  add-t30 : At lts.Need-add-t30
-  add-t30 c = let told = c .before .before .before in omega (arith, read told .2 .inside, start (open-at told) .pre .1 .0 .short)
+  add-closed : At lts.Need-add-closed
+  add-closed c = let told = c .before .before .before .before in omega (arith, read told .2 .inside, start (open-at told) .pre .1 .0 .short)
 
   stars-requires-2 : At lts.Need-stars-requires-2
-  stars-requires-2 c κs = begun (group-far (c .before)) (start (open-at (c .before .before .before .before)) .pre .1 .0 .short)
+  stars-requires-2 c κs = begun (group-far (c .before .before)) (start (open-at (c .before .before .before .before .before)) .pre .1 .0 .short)
 
   same-length-4 : At lts.Need-same-length-4
   same-length-4 c = search needs
@@ -194,10 +194,10 @@ module _ (t : ℕ) where
 
   returns-4 : At lts.Need-returns-4
   returns-4 c =
-      let told = c .before .before .before .before .before .before .before in
+      let told = c .before .before .before .before .before .before .before .before in
       let begin = start (open-at told) in
-      let part = part-group (opens (open-at told)) (read told .0) (group-closed (c .before .before .before .before)) in
-      c .before .before .stars2 .ensures (begin .args .allowed) (given begin) (call told .alternation .last .1 .1 .0) part (group-far (c .before .before .before .before))
+      let part = part-group (opens (open-at told)) (read told .0) (group-closed (c .before .before .before .before .before)) in
+      c .before .before .stars2 .ensures (begin .args .allowed) (given begin) (call told .alternation .last .1 .1 .0) part (group-far (c .before .before .before .before .before))
 
   refused-at-requires-2 : At lts.Need-refused-at-requires-2
   refused-at-requires-2 c κs = search needs
@@ -249,6 +249,6 @@ module _ (t : ℕ) where
   pub spec : {M : Type 1} → lts.Closed claims (unit-at t) unit.Post M
   spec =
       lts.spec claims (unit-at t) unit.Post
-      is-requires refused-at-requires returns add-is is-requires-2 emit-requires add-t21 add-t22 stars-requires same-length returns-2 add-alternation sub-alternation
-      alternation-requires enum-known-r enum-told same-length-2 same-length-3 returns-3 is-requires-3 add-t30 stars-requires-2 same-length-4 same-length-5 returns-4
+      is-requires refused-at-requires returns add-is is-requires-2 emit-requires add-t21 add-t22 stars-requires same-length returns-2 add-inner sub-alternation
+      alternation-requires enum-known-r enum-told same-length-2 same-length-3 returns-3 is-requires-3 add-closed stars-requires-2 same-length-4 same-length-5 returns-4
       refused-at-requires-2 same-length-6 same-length-7 returns-5 unit-at-requires literal-requires same-length-8 same-length-9 returns-6 missing-requires returns-7
