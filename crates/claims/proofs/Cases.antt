@@ -5,6 +5,8 @@ use mathlib.Core.Option.{Option, none, some}
 use mathlib.Core.List.{List, [], _∷_}
 use Prim.Native.Nat.{ℕ, _+_}
 use lib.Dec.{T, eqb, eqb→eq, T-not}
+use Rattle.rules.specs.declared.Refusal.{Refusal}
+use Rattle.rules.specs.Fault.{at}
 use Rattle.rules.specs.Grounds.{firstOf}
 use Rattle.language.specs.Tree.{Tree, size}
 use Rattle.language.specs.Reading.{Pattern, Reading}
@@ -19,8 +21,8 @@ use Rattle.sheet.specs.Refusals.{sheetRefusal}
 use Rattle.sheet.specs.Make.{postorder, sheetOf, patternOf}
 use Rattle.sheet.proofs.Own.{own-stands}
 use Rattle.sheet.proofs.Accepted.{standing}
-use Rattle.text.specs.Walk.{Fault, Answer, tree, fault, parse}
-use Rattle.text.specs.Refusals.{at, textRefusal}
+use Rattle.text.specs.Walk.{Answer, tree, fault, parse}
+use Rattle.text.specs.Refusals.{textRefusal}
 use Rattle.text.proofs.Parsing.{parse-iff}
 use Rattle.reader.specs.Refusals.{mappingGrounds}
 use Rattle.claims.specs.Cases.{Parsed, Case, makes, hasNodes, isMade, reads, refused, badSheet, badCall, Holds, AllHold}
@@ -46,7 +48,7 @@ abbrev numberIs : Option ℕ → ℕ → Bool
 numberIs none k = false
 numberIs (some j) k = eqb j k
 
-abbrev faultIs : Option Fault → ℕ → ℕ → Bool
+abbrev faultIs : Option Refusal → ℕ → ℕ → Bool
 faultIs none k i = false
 faultIs (some f) k i = eqb (f .number) k && eqb (f .place) i
 
@@ -59,7 +61,7 @@ listingTest P name [] = not (accepts P name)
 listingTest P name (r ∷ rs) = accepts P name && (same (firstReading P name) r && onwardTest P name r rs)
 
 -- the text is not refused, and its tree passes
-abbrev treeTest : Option Fault → Answer → (Tree ℕ → Bool) → Bool
+abbrev treeTest : Option Refusal → Answer → (Tree ℕ → Bool) → Bool
 treeTest none (tree t) f = f t
 treeTest none (fault g) f = false
 treeTest (some g) o f = false
@@ -91,7 +93,7 @@ number-eq : (o : Option ℕ) (k : ℕ) → T (numberIs o k) → o ≡ some k
 number-eq none k h = absurd h
 number-eq (some j) k h = ap some (eqb→eq j k h)
 
-fault-eq : (o : Option Fault) (k i : ℕ) → T (faultIs o k i) → o ≡ some (at i k)
+fault-eq : (o : Option Refusal) (k i : ℕ) → T (faultIs o k i) → o ≡ some (at i k)
 fault-eq none k i h = absurd h
 fault-eq (some f) k i h =
     ap₂ (λ (k i : ℕ). some (at i k)) (eqb→eq (f .number) k (and-left (eqb (f .number) k) (eqb (f .place) i) h)) (eqb→eq (f .place) i (and-right (eqb (f .number) k) (eqb (f .place) i) h))
@@ -125,7 +127,7 @@ module _ (P : Pattern) (n : Numbered 1 (1 + size (P .tree)) (P .tree)) (name : L
 made-sound : (text : List ℕ) (f : Tree ℕ → Bool) → T (made text f) → (t : Tree ℕ) × Parsed text t × T (f t)
 made-sound text f h = go (textRefusal text) refl (parse text) refl h
   where
-    go : (r : Option Fault) → textRefusal text ≡ r → (o : Answer) → parse text ≡ o → T (treeTest r o f) → (t : Tree ℕ) × Parsed text t × T (f t)
+    go : (r : Option Refusal) → textRefusal text ≡ r → (o : Answer) → parse text ≡ o → T (treeTest r o f) → (t : Tree ℕ) × Parsed text t × T (f t)
     go none d (tree t) e h = (t, record { fine = d; tree = (parse-iff text t) .0 e }, h)
     go none d (fault g) e h = absurd h
     go (some g) d o e h = absurd h

@@ -8,13 +8,14 @@ use native.Mathlib.Omega.{arith}
 use lib.ListN.{length}
 use Rattle.rules.specs.Limits.{openLimit, wiped}
 use Rattle.rules.specs.Numbers.{done, textLong, sheetShort, repeatFault, sheetForm, workShort}
+use Rattle.rules.specs.declared.Refusal.{Refusal}
+use Rattle.rules.specs.Fault.{at}
 use Rattle.rules.specs.Grounds.{firstOf, Call, refused, answered}
 use Rattle.rules.proofs.Grounds.{some-eq, no-some}
 use Rattle.language.specs.Tree.{Tree}
 use Rattle.lexer.specs.Tokens.{tokensFrom}
 use Rattle.sheet.specs.Make.{sheetOf}
-use Rattle.text.specs.Walk.{Fault}
-use Rattle.text.specs.Refusals.{at, textRefusal}
+use Rattle.text.specs.Refusals.{textRefusal}
 use Rattle.text.specs.Outcome.{SheetEnd, TreeOfText, made, short, SheetCall}
 use Rattle.text.proofs.Parsing.{unambiguous}
 use Rattle.text.proofs.Numbers.{text-number}
@@ -78,7 +79,7 @@ text-call text buffer =
   where
     exactly : (s : SheetEnd) → SheetCall text buffer s → (k i : ℕ) → textLong ≤ k → k ≤ repeatFault → (k ≡ sheetShort → ⊥)
         → ((s .number ≡ k) × (s .second ≡ i)) ↔ (textRefusal text ≡ some (at i k))
-    exactly s (refused {k = f} e) k i a b c = (λ (m, n). e ∙ ap₂ (λ (k i : ℕ). some (at i k)) m n, λ g. (ap (λ (f : Fault). f .number) (some-eq (sym e ∙ g)), ap (λ (f : Fault). f .place) (some-eq (sym e ∙ g))))
+    exactly s (refused {k = f} e) k i a b c = (λ (m, n). e ∙ ap₂ (λ (k i : ℕ). some (at i k)) m n, λ g. (ap (λ (f : Refusal). f .number) (some-eq (sym e ∙ g)), ap (λ (f : Refusal). f .place) (some-eq (sym e ∙ g))))
     exactly s (answered e (made p h)) k i a b c = (λ (m, n). absurd (omega arith), λ g. no-some (sym e ∙ g))
     exactly s (answered e (short p h)) k i a b c = (λ (m, n). absurd (c (sym m)), λ g. no-some (sym e ∙ g))
 

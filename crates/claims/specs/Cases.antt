@@ -5,6 +5,7 @@ use mathlib.Core.List.{List, [], _∷_}
 use Prim.Native.Nat.{ℕ}
 use Prim.Native.String.{String, [] as noText, _∷_ as _then_}
 use Prim.Native.Char.{code}
+use Rattle.rules.specs.Fault.{at}
 use Rattle.rules.specs.Grounds.{firstOf}
 use Rattle.language.specs.Tree.{Tree}
 use Rattle.language.specs.Reading.{Pattern}
@@ -12,7 +13,7 @@ use Rattle.language.specs.Listing.{Listing}
 use Rattle.sheet.specs.Refusals.{sheetRefusal}
 use Rattle.sheet.specs.Stands.{standsFor}
 use Rattle.sheet.specs.Make.{postorder, sheetOf}
-use Rattle.text.specs.Refusals.{at, textRefusal}
+use Rattle.text.specs.Refusals.{textRefusal}
 use Rattle.text.specs.Outcome.{TreeOfText}
 use Rattle.reader.specs.Refusals.{mappingGrounds}
 

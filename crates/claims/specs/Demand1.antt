@@ -8,10 +8,11 @@ use Prim.Native.Nat.{ℕ, _≤_, _<_}
 use lib.ListN.{length}
 use Rattle.rules.specs.Limits.{wiped}
 use Rattle.rules.specs.Numbers.{done, textLong, sheetShort, repeatFault, sheetForm, workShort}
+use Rattle.rules.specs.Fault.{at}
 use Rattle.rules.specs.Grounds.{firstOf}
 use Rattle.language.specs.Tree.{Tree}
 use Rattle.sheet.specs.Make.{sheetOf}
-use Rattle.text.specs.Refusals.{at, textRefusal}
+use Rattle.text.specs.Refusals.{textRefusal}
 use Rattle.text.specs.Outcome.{SheetEnd, SheetCall, TreeOfText}
 use Rattle.reader.specs.Refusals.{mappingGrounds, acceptGrounds}
 use Rattle.reader.specs.Answer.{numberOf}

@@ -8,8 +8,8 @@ use Rattle.sheet.specs.declared.SheetFault.{SheetFault}
 use Rattle.sheet.specs.declared.SheetFault.the-variants.{SheetForm, SheetLength, SheetLeaves, SheetByte, WaitingFew, WaitingEnd, WaitingMany, LeavesUnequal}
 use Rattle.sheet.specs.Answer.{faultNumber}
 use Rattle.text.specs.Outcome.{SheetEnd, made, short, SheetCall}
-use Rattle.maker.specs.declared.SheetAnswer.{SheetAnswer}
-use Rattle.maker.specs.Answer.{sheetEnd}
+use Rattle.sheet_call.specs.declared.SheetAnswer.{SheetAnswer}
+use Rattle.sheet_call.specs.Answer.{sheetEnd}
 use Rattle.text.proofs.Numbers.{text-number}
 use Rattle.text.proofs.Places.{place-small, sheet-small}
 use Rattle.reader.specs.Outcome.{End}

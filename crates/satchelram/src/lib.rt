@@ -25,10 +25,10 @@ fn pack(number: u64, second: u64) -> u64
 pub extern "C" fn satchelram_sheet(text: &[u8], sheet: &mut [u8]) -> u64
     ensures { λ r. ⌜ Exports (SheetCall (now (text .entry)) (now (sheet .entry)) (sheetEndIn r (now (sheet .exit)))) r ⌝ }
 {
-    let a = maker::make(text, sheet);
+    let a = sheet_call::make(text, sheet);
     match a {
-        maker::SheetAnswer::Made(n) => pack(0, n as u64),
-        maker::SheetAnswer::Refused(f) => pack(f.number as u64, f.place as u64),
+        sheet_call::SheetAnswer::Made(n) => pack(0, n as u64),
+        sheet_call::SheetAnswer::Refused(f) => pack(f.number as u64, f.place as u64),
     }
 }
 

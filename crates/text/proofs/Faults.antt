@@ -9,16 +9,16 @@ use lib.Dec.{eqb}
 use lib.ListN.{length, getD, drop, drop-of-length-le, length-drop}
 use borrow.Author.Tests.{eqb-true}
 use Rattle.rules.specs.Limits.{openLimit}
+use Rattle.rules.specs.declared.Refusal.{Refusal}
+use Rattle.rules.specs.Fault.{at}
 use Rattle.rules.specs.Numbers.{operandMissing, closeUnopened, openUnclosed, openDeep}
-use Rattle.lexer.specs.declared.Refusal.{Refusal}
 use Rattle.lexer.specs.Bytes.{bar, asterisk, leftParenthesis, rightParenthesis}
 use Rattle.lexer.specs.Tokens.{Placed, placed, aBar, aStar, aClose, starts, tokensFrom}
 use Rattle.lexer.specs.Places.{startsUnit, unitAt, Faulty}
 use Rattle.lexer.proofs.Front.{front-in, tokens-end, tokens-bar, tokens-star, tokens-open, tokens-close}
-use Rattle.text.specs.declared.Read.{Read}
-use Rattle.text.specs.declared.Read.the-variants.{Done, Refused}
-use Rattle.text.specs.Walk.{Frame, begin, going, faultAt, run}
-use Rattle.text.specs.Reads.{refusedAs, Out, Ready, Fails, endsAt, UnitRead, MissingRead}
+use Rattle.lexer.proofs.Walks.{joins}
+use Rattle.text.specs.Walk.{Frame, begin, going, fault, run}
+use Rattle.text.specs.Reads.{Ready, Fails, endsAt}
 
 clash : {A : Type 0} → true ≡ false → A
 clash e = absurd (true≢false e)
@@ -27,13 +27,6 @@ clash e = absurd (true≢false e)
 not-unit : (c : ℕ) → startsUnit c ≡ false → (s : List ℕ) → starts s c ≡ true → unitAt s ≡ true → ⊥
 not-unit c h [] e u = clash (sym e)
 not-unit c h (b ∷ s) e u = clash (sym u ∙ ap startsUnit (eqb-true b c e) ∙ h)
-
--- where none starts, and the text goes on without a closed parenthesis, a bar or a star stands
-pub joins : (a b c : Bool) → (not a && (not b && not c)) ≡ false → c ≡ false → a ≡ false → b ≡ true
-joins true b c e f g = clash g
-joins false true c e f g = refl
-joins false false true e f g = clash f
-joins false false false e f g = clash e
 
 pub ends-is : (s : List ℕ) → starts s asterisk ≡ false → unitAt s ≡ false → starts s bar ≡ false → endsAt s ≡ true
 ends-is [] a u b = refl
@@ -50,84 +43,79 @@ end-is [] e c = refl
 end-is (b ∷ s) e c = clash (sym e ∙ c)
 
 -- an alternation that does not end at a closed parenthesis ends with the text
-pub at-end : (t : List ℕ) (at : ℕ) → endsAt (drop at t) ≡ true → starts (drop at t) rightParenthesis ≡ false → length t ≤ at
-at-end t at e c = omega (arith, length-drop at t, end-is (drop at t) e c)
+pub at-end : (t : List ℕ) (here : ℕ) → endsAt (drop here t) ≡ true → starts (drop here t) rightParenthesis ≡ false → length t ≤ here
+at-end t here e c = omega (arith, length-drop here t, end-is (drop here t) e c)
 
 -- THE WALK
 module _ (len d : ℕ) where
-  end-out : (f : Frame) (gs : List Frame) → Ready f gs [] → d + length gs ≡ openLimit → d ≡ openLimit → run len d [] f gs ≡ faultAt operandMissing len
+  end-out : (f : Frame) (gs : List Frame) → Ready f gs [] → d + length gs ≡ openLimit → d ≡ openLimit → run len d [] f gs ≡ fault (at len operandMissing)
   end-out (begin a) [] r e q = refl
   end-out (going a s u) [] r e q = clash (sym r)
   end-out f (g ∷ gs) r e q = absurd (omega arith)
 
-  end-in : (f : Frame) (gs : List Frame) → d + length gs ≡ openLimit → (d ≡ openLimit → ⊥) → run len d [] f gs ≡ faultAt openUnclosed len
+  end-in : (f : Frame) (gs : List Frame) → d + length gs ≡ openLimit → (d ≡ openLimit → ⊥) → run len d [] f gs ≡ fault (at len openUnclosed)
   end-in f [] e q = absurd (q (omega arith))
   end-in (begin a) (g ∷ gs) e q = refl
   end-in (going a s u) (g ∷ gs) e q = refl
 
   module _ (i : ℕ) (ps : List Placed) where
-    close-out : (f : Frame) (gs : List Frame) → d + length gs ≡ openLimit → d ≡ openLimit → run len d (placed i aClose ∷ ps) f gs ≡ faultAt closeUnopened i
+    close-out : (f : Frame) (gs : List Frame) → d + length gs ≡ openLimit → d ≡ openLimit → run len d (placed i aClose ∷ ps) f gs ≡ fault (at i closeUnopened)
     close-out (begin none) [] e q = refl
     close-out (begin (some r)) [] e q = refl
     close-out (going a s u) [] e q = refl
     close-out f (g ∷ gs) e q = absurd (omega arith)
 
     close-in : (s : List ℕ) (f : Frame) (gs : List Frame) → starts s rightParenthesis ≡ true → Ready f gs s → d + length gs ≡ openLimit → (d ≡ openLimit → ⊥)
-        → run len d (placed i aClose ∷ ps) f gs ≡ faultAt operandMissing i
+        → run len d (placed i aClose ∷ ps) f gs ≡ fault (at i operandMissing)
     close-in s f [] c r e q = absurd (q (omega arith))
     close-in s (begin none) (g ∷ gs) c r e q = clash (sym c ∙ r)
     close-in s (begin (some t)) (g ∷ gs) c r e q = refl
     close-in s (going a b u) (g ∷ gs) c r e q = absurd (not-unit rightParenthesis refl s c r)
 
-    bar-none : (s : List ℕ) (f : Frame) (gs : List Frame) → starts s bar ≡ true → Ready f gs s → run len d (placed i aBar ∷ ps) f gs ≡ faultAt operandMissing i
+    bar-none : (s : List ℕ) (f : Frame) (gs : List Frame) → starts s bar ≡ true → Ready f gs s → run len d (placed i aBar ∷ ps) f gs ≡ fault (at i operandMissing)
     bar-none s (begin a) gs c r = refl
     bar-none s (going a b u) gs c r = absurd (not-unit bar refl s c r)
 
-    star-none : (s : List ℕ) (f : Frame) (gs : List Frame) → starts s asterisk ≡ true → Ready f gs s → run len d (placed i aStar ∷ ps) f gs ≡ faultAt operandMissing i
+    star-none : (s : List ℕ) (f : Frame) (gs : List Frame) → starts s asterisk ≡ true → Ready f gs s → run len d (placed i aStar ∷ ps) f gs ≡ fault (at i operandMissing)
     star-none s (begin a) gs c r = refl
     star-none s (going a b u) gs c r = absurd (not-unit asterisk refl s c r)
 
 -- FROM A PLACE OF A TEXT
-module _ (t : List ℕ) (d at : ℕ) where
-  module _ (h : at ≤ length t) (e : length t ≤ at) where
-    pub missing-end-out : d ≡ openLimit → MissingRead t d at (refusedAs operandMissing at)
+module _ (t : List ℕ) (d here : ℕ) where
+  module _ (h : here ≤ length t) (e : length t ≤ here) where
+    pub missing-end-out : d ≡ openLimit → Fails t d here (at here operandMissing)
     missing-end-out q f gs r c =
-        let z : length t ≡ at = omega arith in
-        rw (tokens-end t at e, z) (end-out at d f gs (rw (drop-of-length-le t {i = at} e) at r) c q)
+        let z : length t ≡ here = omega arith in
+        rw (tokens-end t here e, z) (end-out here d f gs (rw (drop-of-length-le t {i = here} e) at r) c q)
 
-    pub missing-end-in : (d ≡ openLimit → ⊥) → MissingRead t d at (refusedAs openUnclosed at)
+    pub missing-end-in : (d ≡ openLimit → ⊥) → Fails t d here (at here openUnclosed)
     missing-end-in q f gs r c =
-        let z : length t ≡ at = omega arith in
-        rw (tokens-end t at e, z) (end-in at d f gs c q)
+        let z : length t ≡ here = omega arith in
+        rw (tokens-end t here e, z) (end-in here d f gs c q)
 
-  module _ (e : starts (drop at t) rightParenthesis ≡ true) where
-    pub missing-close-out : d ≡ openLimit → MissingRead t d at (refusedAs closeUnopened at)
-    missing-close-out q f gs r c = rw (tokens-close t at e) (close-out (length t) d at (tokensFrom t (at + 1)) f gs c q)
+  module _ (e : starts (drop here t) rightParenthesis ≡ true) where
+    pub missing-close-out : d ≡ openLimit → Fails t d here (at here closeUnopened)
+    missing-close-out q f gs r c = rw (tokens-close t here e) (close-out (length t) d here (tokensFrom t (here + 1)) f gs c q)
 
-    pub missing-close-in : (d ≡ openLimit → ⊥) → MissingRead t d at (refusedAs operandMissing at)
-    missing-close-in q f gs r c = rw (tokens-close t at e) (close-in (length t) d at (tokensFrom t (at + 1)) (drop at t) f gs e r c q)
+    pub missing-close-in : (d ≡ openLimit → ⊥) → Fails t d here (at here operandMissing)
+    missing-close-in q f gs r c = rw (tokens-close t here e) (close-in (length t) d here (tokensFrom t (here + 1)) (drop here t) f gs e r c q)
 
   -- a bar or a star
-  pub missing-join : at < length t → unitAt (drop at t) ≡ false → starts (drop at t) rightParenthesis ≡ false → MissingRead t d at (refusedAs operandMissing at)
-  missing-join h u e = go (eqb (getD t at 0) bar) refl
+  pub missing-join : here < length t → unitAt (drop here t) ≡ false → starts (drop here t) rightParenthesis ≡ false → Fails t d here (at here operandMissing)
+  missing-join h u e = go (eqb (getD t here 0) bar) refl
     where
-      byte : (c : ℕ) → starts (drop at t) c ≡ eqb (getD t at 0) c
-      byte c = sym (front-in (λ (s : List ℕ). starts s c) t at h)
+      byte : (c : ℕ) → starts (drop here t) c ≡ eqb (getD t here 0) c
+      byte c = sym (front-in (λ (s : List ℕ). starts s c) t here h)
 
-      go : (b : Bool) → eqb (getD t at 0) bar ≡ b → MissingRead t d at (refusedAs operandMissing at)
-      go true q = λ f gs r c. let s : starts (drop at t) bar ≡ true = byte bar ∙ q in rw (tokens-bar t at s) (bar-none (length t) d at (tokensFrom t (at + 1)) (drop at t) f gs s r)
+      go : (b : Bool) → eqb (getD t here 0) bar ≡ b → Fails t d here (at here operandMissing)
+      go true q = λ f gs r c. let s : starts (drop here t) bar ≡ true = byte bar ∙ q in rw (tokens-bar t here s) (bar-none (length t) d here (tokensFrom t (here + 1)) (drop here t) f gs s r)
       go false q =
-          let k = joins (eqb (getD t at 0) bar) (eqb (getD t at 0) asterisk) (eqb (getD t at 0) rightParenthesis) (front-in unitAt t at h ∙ u) (sym (byte rightParenthesis) ∙ e) q in
-          let s : starts (drop at t) asterisk ≡ true = byte asterisk ∙ k in
-          λ f gs r c. rw (tokens-star t at s) (star-none (length t) d at (tokensFrom t (at + 1)) (drop at t) f gs s r)
+          let k = joins (eqb (getD t here 0) bar) (eqb (getD t here 0) asterisk) (eqb (getD t here 0) rightParenthesis) (front-in unitAt t here h ∙ u) (sym (byte rightParenthesis) ∙ e) q in
+          let s : starts (drop here t) asterisk ≡ true = byte asterisk ∙ k in
+          λ f gs r c. rw (tokens-star t here s) (star-none (length t) d here (tokensFrom t (here + 1)) (drop here t) f gs s r)
 
-  pub fails-deep : starts (drop at t) leftParenthesis ≡ true → d ≡ 0 → Fails t d at (record { number = openDeep; place = at })
-  fails-deep e q f gs r c = rw (tokens-open t at e, q) refl
+  pub fails-deep : starts (drop here t) leftParenthesis ≡ true → d ≡ 0 → Fails t d here (at here openDeep)
+  fails-deep e q f gs r c = rw (tokens-open t here e, q) refl
 
-  pub fails-token : (k : Refusal) → Faulty t at k → Fails t d at k
+  pub fails-token : (k : Refusal) → Faulty t here k → Fails t d here k
   fails-token k e f gs r c = rw e refl
-
-  -- what `missing` answers is a unit's refusal
-  pub missing-read : (o : Out) (xs bs : List ℕ) (r : Read) → MissingRead t d at r → UnitRead t d at o xs bs r
-  missing-read o xs bs (Done next m k) w = absurd w
-  missing-read o xs bs (Refused k) w = w

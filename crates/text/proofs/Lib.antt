@@ -3,7 +3,6 @@ pub mod Made
 pub mod Outcome
 pub mod Numbers
 pub mod Places
-pub mod Copies
 pub mod Faults
 pub mod Parts
 pub mod Readers

@@ -10,12 +10,15 @@ use lib.Dec.{ltb}
 use lib.ListN.{length}
 use Rattle.rules.specs.Limits.{textLimit, openLimit, leafLimit, nodeLimit}
 use Rattle.rules.specs.Numbers.{textLong, repeatFault, sheetShort, operandMissing, closeUnopened, openUnclosed, openDeep, leavesMany, nodesMany}
+use Rattle.rules.specs.declared.Refusal.{Refusal}
+use Rattle.rules.specs.Fault.{at}
 use Rattle.rules.proofs.Grounds.{Gives, AllGive, because-gives, first-gives}
 use Rattle.lexer.specs.Tokens.{aLiteral, aBar, aStar, anOpen, aClose, aFault, Placed, placed, tokensFrom}
+use Rattle.lexer.specs.Faults.{lexical, leavesOf, passing}
 use Rattle.lexer.proofs.Literals.{Literal, Writable, writable}
 use Rattle.sheet.specs.Make.{postorder}
-use Rattle.text.specs.Walk.{Fault, Frame, begin, going, Answer, tree, fault, run, parse}
-use Rattle.text.specs.Refusals.{at, lexical, grammatical, leavesOf, passing, tooBig, textGrounds, textRefusal}
+use Rattle.text.specs.Walk.{Frame, begin, going, Answer, tree, fault, run, parse}
+use Rattle.text.specs.Refusals.{grammatical, tooBig, textGrounds, textRefusal}
 
 pub record TextNumber (k : ℕ) : Type 0 where
   pub low : textLong ≤ k
@@ -23,10 +26,10 @@ pub record TextNumber (k : ℕ) : Type 0 where
   pub other : k ≡ sheetShort → ⊥
 
 -- the number of a refusal, if there is one, is such a number
-abbrev Right : Fault → Type 0
+abbrev Right : Refusal → Type 0
 Right f = TextNumber (f .number)
 
-abbrev Numbered : Option Fault → Type 0
+abbrev Numbered : Option Refusal → Type 0
 Numbered = Gives Right
 
 token-number : (k : ℕ) → Literal (aFault k) → TextNumber k
@@ -74,7 +77,7 @@ big-numbered : (e : ℕ) (o : Answer) → Numbered (tooBig e o)
 big-numbered e (tree t) = because-gives Right (ltb nodeLimit (length (postorder t))) (at e nodesMany) (fixed nodesMany (omega arith) (omega arith))
 big-numbered e (fault f) = tt
 
-pub text-number : (text : List ℕ) (f : Fault) → textRefusal text ≡ some f → TextNumber (f .number)
+pub text-number : (text : List ℕ) (f : Refusal) → textRefusal text ≡ some f → TextNumber (f .number)
 text-number text f e =
     let w = writable text 0 in
     let long = because-gives Right (ltb textLimit (length text)) (at textLimit textLong) (fixed textLong (omega arith) (omega arith)) in

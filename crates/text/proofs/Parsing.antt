@@ -7,10 +7,11 @@ use Prim.Native.Nat.{ℕ, zero, suc}
 use native.Mathlib.Omega.{arith}
 use lib.ListN.{length}
 use Rattle.rules.specs.Limits.{openLimit}
+use Rattle.rules.specs.declared.Refusal.{Refusal}
 use Rattle.language.specs.Tree.{Tree, cat, alt, star}
 use Rattle.lexer.specs.Tokens.{aLiteral, aBar, aStar, anOpen, aClose, aFault, Placed, placed, tokensFrom}
 use Rattle.text.specs.Grammar.{Level, unit, sequence, alternation, Parses, literal, void, group, starred, one, then, only, or}
-use Rattle.text.specs.Walk.{Fault, Frame, begin, going, after, value, put, tree, fault, run, parse}
+use Rattle.text.specs.Walk.{Frame, begin, going, after, value, put, tree, fault, run, parse}
 use Rattle.text.specs.Outcome.{TreeOfText}
 
 -- e: the text's length
@@ -102,7 +103,7 @@ frame-put {ys = ys} (barred i {us = us} q) p = rw (append-assoc us (placed i aBa
 frame-put (plain q) p = plain (joined (seq-value q) p)
 frame-put {ys = ys} (further i {us = us} {ws = ws} r q) p = rw (append-assoc us (placed i aBar ∷ ws) ys) (further i r (joined (seq-value q) p))
 
-never : {A : Type 0} {f : Fault} {t : Tree ℕ} → fault f ≡ tree t → A
+never : {A : Type 0} {f : Refusal} {t : Tree ℕ} → fault f ≡ tree t → A
 never e = let z : _≡_ {A = ℕ} 0 1 = cc in absurd (omega arith)
 
 module _ (len D : ℕ) where

@@ -11,19 +11,22 @@ use borrow.Author.Tests.{ltb-false}
 use Rattle.rules.specs.Limits.{textLimit, openLimit, leafLimit, nodeLimit}
 use Rattle.rules.specs.Numbers.{textLong, leavesMany, nodesMany}
 use Rattle.rules.specs.Grounds.{because, firstOf}
+use Rattle.rules.specs.declared.Refusal.{Refusal}
+use Rattle.rules.specs.Fault.{at}
 use Rattle.rules.proofs.Grounds.{some-eq, Gives, AllGive, because-gives, first-gives}
 use Rattle.language.specs.Tree.{Tree}
 use Rattle.lexer.specs.Tokens.{aLiteral, aBar, aStar, anOpen, aClose, aFault, Placed, placed, tokensFrom}
+use Rattle.lexer.specs.Faults.{lexical, leavesOf, passing}
 use Rattle.lexer.proofs.Inside.{Inside, inside}
 use Rattle.sheet.specs.Make.{postorder, sheetOf}
 use Rattle.sheet.proofs.Own.{length-leaves, own-length}
-use Rattle.text.specs.Walk.{Fault, Frame, begin, going, Answer, tree, fault, run, parse}
-use Rattle.text.specs.Refusals.{at, lexical, grammatical, leavesOf, passing, tooBig, textRefusal}
+use Rattle.text.specs.Walk.{Frame, begin, going, Answer, tree, fault, run, parse}
+use Rattle.text.specs.Refusals.{grammatical, tooBig, textRefusal}
 use Rattle.text.specs.Outcome.{TreeOfText}
 use Rattle.text.proofs.Made.{within}
 
 module _ (e : ℕ) where
-  abbrev Near : Fault → Type 0
+  abbrev Near : Refusal → Type 0
   Near f = f .place ≤ e
 
   lexical-near : (ps : List Placed) → Inside e ps → Gives Near (lexical ps)
@@ -65,10 +68,10 @@ module _ (e : ℕ) where
   big-near (fault f) = tt
 
 -- the place of a refusal
-pub place-small : (text : List ℕ) (f : Fault) → textRefusal text ≡ some f → f .place ≤ textLimit
+pub place-small : (text : List ℕ) (f : Refusal) → textRefusal text ≡ some f → f .place ≤ textLimit
 place-small text f e = go (ltb textLimit (length text)) refl e
   where
-    rest : List (Option Fault)
+    rest : List (Option Refusal)
     rest = lexical (tokensFrom text 0) ∷ grammatical (parse text) ∷ passing 0 (tokensFrom text 0) ∷ tooBig (length text) (parse text) ∷ []
 
     near : AllGive (Near (length text)) rest

@@ -1,22 +1,9 @@
 -- The grammar of expressions over tokens (document 01, "Expressions as text"; precedence and grouping by Myers 1992, section 1).
 use mathlib.Core.List.{List, [], _∷_, _++_}
-use Prim.Native.Nat.{ℕ, suc, _-_}
-use lib.ListN.{replicate}
-use Rattle.language.specs.Tree.{Tree, leaf, empty, cat, alt, star}
+use Prim.Native.Nat.{ℕ, suc}
+use Rattle.language.specs.Tree.{Tree, empty, cat, alt, star}
 use Rattle.lexer.specs.Tokens.{aLiteral, aBar, aStar, anOpen, aClose, Placed, placed}
-
--- concatenated from the left; nothing is the empty word
-abbrev pub catFrom : Tree ℕ → List (Tree ℕ) → Tree ℕ
-catFrom r [] = r
-catFrom r (t ∷ ts) = catFrom (cat r t) ts
-
-abbrev pub catAll : List (Tree ℕ) → Tree ℕ
-catAll [] = empty
-catAll (t ∷ ts) = catFrom t ts
-
--- "x copies followed by y-x copies of (literal or empty word), concatenated from the left, as one unit"
-abbrev pub copies : ℕ → ℕ → ℕ → Tree ℕ
-copies b x y = catAll (replicate x (leaf b) ++ replicate (y - x) (alt (leaf b) empty))
+use Rattle.repeats.specs.Copies.{copies}
 
 pub data Level : Type 0 where
   unit sequence alternation : Level

@@ -4,12 +4,12 @@ use Prim.Native.Nat.{ℕ, _<_, _≤_}
 use lib.ListN.{length}
 use Rattle.rules.specs.Limits.{openLimit, wiped, filled}
 use Rattle.rules.specs.Numbers.{done, sheetShort}
+use Rattle.rules.specs.declared.Refusal.{Refusal}
 use Rattle.rules.specs.Grounds.{Call}
 use Rattle.language.specs.Tree.{Tree}
 use Rattle.sheet.specs.Make.{sheetOf}
 use Rattle.lexer.specs.Tokens.{tokensFrom}
 use Rattle.text.specs.Grammar.{Parses, alternation}
-use Rattle.text.specs.Walk.{Fault}
 use Rattle.text.specs.Refusals.{textRefusal}
 
 pub record SheetEnd : Type 0 where
@@ -29,7 +29,7 @@ pub data SheetWent (text buffer : List ℕ) : SheetEnd → Type 0 where
       → SheetWent text buffer (record { number = sheetShort; second = length (sheetOf t); sheet = wiped buffer })
 
 -- a refusal answers its place, and wipes the buffer
-abbrev pub sheetKept : List ℕ → Fault → SheetEnd
+abbrev pub sheetKept : List ℕ → Refusal → SheetEnd
 sheetKept buffer f = record { number = f .number; second = f .place; sheet = wiped buffer }
 
 abbrev pub SheetCall : List ℕ → List ℕ → SheetEnd → Type 0

@@ -1,71 +1,82 @@
-// Expression text to sheet: alternation, sequence and unit read a text and emit its nodes and literals as they go.
+// Expression text to nodes and literals: alternation, sequence and unit read a text and store both as they go.
 ghost use mathlib.Core.Path.{_≡_};
 ghost use mathlib.Core.Bool.{true, false};
-ghost use Prim.Native.Nat.{ℕ, _+_, _-_, _<_, _≤_};
+ghost use Prim.Native.Nat.{ℕ, _≤_};
 ghost use lib.ListN.{length, drop};
 ghost use Rattle.rules.specs.Limits.{textLimit, openLimit};
 ghost use Rattle.lexer.specs.Bytes.{leftParenthesis};
 ghost use Rattle.lexer.specs.Tokens.{starts};
 ghost use Rattle.lexer.specs.Places.{unitAt};
-ghost use Rattle.text.specs.Reads.{refusedAs, Begun, out, UnitRead, SeqRead, AltRead, StarsRead, MissingRead, TextRead};
-use emission::emit;
-use emission::emit_if;
-use emission::letters;
-use emission::repeat;
+ghost use Rattle.text.specs.Reads.{Begun, state, Fails, UnitRead, SeqRead, AltRead, StarsRead, TextRead};
+use buffers::emit;
+use buffers::emit_if;
+use buffers::emit_times;
 use lexer::Literal;
-use lexer::Refusal;
 use lexer::is;
 use lexer::literal_at;
 use lexer::plain_at;
 use lexer::unit_at;
-use sheet::CAT_NODE;
+use repeats::repeat;
 use rules::CLOSE_UNOPENED;
-use sheet::EMPTY_NODE;
-use sheet::LEAF_NODE;
 use rules::OPEN_DEEP;
 use rules::OPEN_LIMIT;
 use rules::OPEN_UNCLOSED;
 use rules::OPERAND_MISSING;
+use rules::Refusal;
+use rules::refused_at;
+use sheet::CAT_NODE;
+use sheet::EMPTY_NODE;
+use sheet::LEAF_NODE;
 use sheet::STAR_NODE;
 use sheet::UNION_NODE;
 
+// How far a reader came: the place after what was read, and how many nodes and leaves there are so far.
+pub struct Progress {
+    pub place: usize,
+    pub nodes: usize,
+    pub leaves: usize,
+}
+
 // A reader's answer.
 pub enum Read {
-    // the place after, the number of nodes and of leaves so far
-    Done(usize, usize, usize),
+    Done(Progress),
     Refused(Refusal),
 }
 
-fn refused(number: usize, place: usize) -> Read
-    ensures { λ r. ⌜ r ≡ refusedAs number place ⌝ }
-{
-    Read::Refused(Refusal { number, place })
-}
-
 // The stars that follow a unit.
-fn stars(text: &[u8], nodes: &mut [u8], at: usize, n: usize, l: usize) -> Read
-    requires { ⌜ Begun (length (now text)) at n l ⌝ }
-    ensures { λ r. ⌜ StarsRead (now (text .entry)) at n l (now (nodes .entry)) (now (nodes .exit)) r ⌝ }
+fn stars(text: &[u8], nodes: &mut [u8], from: Progress) -> Read
+    requires { ⌜ Begun (length (now text)) from ⌝ }
+    ensures { λ r. ⌜ StarsRead (now (text .entry)) from (now (nodes .entry)) (now (nodes .exit)) r ⌝ }
 {
-    let mut i = at;
-    let mut m = n;
-    while is(text, i, b'*') {
-        emit(nodes, m, STAR_NODE);
-        i += 1;
-        m += 1;
+    let mut place = from.place;
+    let mut n = from.nodes;
+    while is(text, place, b'*') {
+        emit(nodes, n, STAR_NODE);
+        place += 1;
+        n += 1;
     }
-    Read::Done(i, m, l)
+    Read::Done(Progress {
+        place,
+        nodes: n,
+        leaves: from.leaves,
+    })
 }
 
 // A literal with its repeat and its stars; most literals are one plain byte.
-fn literal(text: &[u8], nodes: &mut [u8], lits: &mut [u8], at: usize, n: usize, l: usize) -> Read
-    requires { ⌜ Begun (length (now text)) at n l × (unitAt (drop at (now text)) ≡ true) × (starts (drop at (now text)) leftParenthesis ≡ false) ⌝ }
-    ensures { λ r. ⌜ ((d : ℕ) → UnitRead (now (text .entry)) d at (out n (now (nodes .entry)) l (now (lits .entry))) (now (nodes .exit)) (now (lits .exit)) r) ⌝ }
+fn literal(text: &[u8], nodes: &mut [u8], lits: &mut [u8], from: Progress) -> Read
+    requires { ⌜ Begun (length (now text)) from × (unitAt (drop (from .place) (now text)) ≡ true) × (starts (drop (from .place) (now text)) leftParenthesis ≡ false) ⌝ }
+    ensures { λ r. ⌜ ((d : ℕ) → UnitRead (now (text .entry)) d (state from (now (nodes .entry)) (now (lits .entry))) (now (nodes .exit)) (now (lits .exit)) r) ⌝ }
 {
+    let at = from.place;
     if plain_at(text, at) {
-        emit(nodes, n, LEAF_NODE);
-        emit(lits, l, text[at]);
-        return stars(text, nodes, at + 1, n + 1, l + 1);
+        emit(nodes, from.nodes, LEAF_NODE);
+        emit(lits, from.leaves, text[at]);
+        let one = Progress {
+            place: at + 1,
+            nodes: from.nodes + 1,
+            leaves: from.leaves + 1,
+        };
+        return stars(text, nodes, one);
     }
     let q = literal_at(text, at);
     match q {
@@ -73,31 +84,36 @@ fn literal(text: &[u8], nodes: &mut [u8], lits: &mut [u8], at: usize, n: usize, 
             return Read::Refused(f);
         }
         Literal::Of(b, x, y, next) => {
-            let m = repeat(nodes, n, x, y);
-            let k = letters(lits, l, b, y);
-            return stars(text, nodes, next, m, k);
+            let n = repeat(nodes, from.nodes, x, y);
+            let l = emit_times(lits, from.leaves, b, y);
+            let all = Progress {
+                place: next,
+                nodes: n,
+                leaves: l,
+            };
+            return stars(text, nodes, all);
         }
     }
 }
 
 // The refusal where no unit starts: 13 before 12 at a closed parenthesis, 14 before 12 at the end.
-fn missing(text: &[u8], at: usize, allowed: usize) -> Read
+fn missing(text: &[u8], at: usize, allowed: usize) -> Refusal
     requires { ⌜ (at ≤ length (now text)) × (unitAt (drop at (now text)) ≡ false) ⌝ }
-    ensures { λ r. ⌜ MissingRead (now (text .entry)) allowed at r ⌝ }
+    ensures { λ r. ⌜ Fails (now (text .entry)) allowed at r ⌝ }
 {
     if at < text.len() {
         if is(text, at, b')') {
             if allowed == OPEN_LIMIT {
-                return refused(CLOSE_UNOPENED, at);
+                return refused_at(at, CLOSE_UNOPENED);
             }
-            return refused(OPERAND_MISSING, at);
+            return refused_at(at, OPERAND_MISSING);
         }
-        return refused(OPERAND_MISSING, at);
+        return refused_at(at, OPERAND_MISSING);
     }
     if allowed == OPEN_LIMIT {
-        return refused(OPERAND_MISSING, at);
+        return refused_at(at, OPERAND_MISSING);
     }
-    refused(OPEN_UNCLOSED, at)
+    refused_at(at, OPEN_UNCLOSED)
 }
 
 // An alternation: its sequences, each after the first with the union after it.
@@ -105,112 +121,119 @@ fn alternation(
     text: &[u8],
     nodes: &mut [u8],
     lits: &mut [u8],
-    at: usize,
-    n: usize,
-    l: usize,
+    from: Progress,
     allowed: usize,
 ) -> Read
-    requires { ⌜ Begun (length (now text)) at n l × (allowed ≤ openLimit) ⌝ }
-    ensures { λ r. ⌜ AltRead (now (text .entry)) allowed at (out n (now (nodes .entry)) l (now (lits .entry))) (now (nodes .exit)) (now (lits .exit)) r ⌝ }
+    requires { ⌜ Begun (length (now text)) from × (allowed ≤ openLimit) ⌝ }
+    ensures { λ r. ⌜ AltRead (now (text .entry)) allowed (state from (now (nodes .entry)) (now (lits .entry))) (now (nodes .exit)) (now (lits .exit)) r ⌝ }
 {
-    let mut next = at;
-    let mut m = n;
-    let mut k = l;
+    let mut p = from;
     let mut again = false;
     loop {
-        let r = sequence(text, nodes, lits, next, m, k, allowed);
-        let Read::Done(last, i, j) = r else {
+        let r = sequence(text, nodes, lits, p, allowed);
+        let Read::Done(q) = r else {
             return r;
         };
-        m = emit_if(nodes, i, again, UNION_NODE);
-        k = j;
-        if !is(text, last, b'|') {
-            return Read::Done(last, m, k);
+        let next = q.place;
+        let n = emit_if(nodes, q.nodes, again, UNION_NODE);
+        if !is(text, next, b'|') {
+            return Read::Done(Progress {
+                place: next,
+                nodes: n,
+                leaves: q.leaves,
+            });
         }
-        next = last + 1;
+        p = Progress {
+            place: next + 1,
+            nodes: n,
+            leaves: q.leaves,
+        };
         again = true;
     }
 }
 
 // A sequence: its units, each after the first with the concatenation after it.
-fn sequence(
-    text: &[u8],
-    nodes: &mut [u8],
-    lits: &mut [u8],
-    at: usize,
-    n: usize,
-    l: usize,
-    allowed: usize,
-) -> Read
-    requires { ⌜ Begun (length (now text)) at n l × (allowed ≤ openLimit) ⌝ }
-    ensures { λ r. ⌜ SeqRead (now (text .entry)) allowed at (out n (now (nodes .entry)) l (now (lits .entry))) (now (nodes .exit)) (now (lits .exit)) r ⌝ }
+fn sequence(text: &[u8], nodes: &mut [u8], lits: &mut [u8], from: Progress, allowed: usize) -> Read
+    requires { ⌜ Begun (length (now text)) from × (allowed ≤ openLimit) ⌝ }
+    ensures { λ r. ⌜ SeqRead (now (text .entry)) allowed (state from (now (nodes .entry)) (now (lits .entry))) (now (nodes .exit)) (now (lits .exit)) r ⌝ }
 {
-    let mut next = at;
-    let mut m = n;
-    let mut k = l;
+    let mut p = from;
     let mut again = false;
     loop {
-        let r = unit(text, nodes, lits, next, m, k, allowed);
-        let Read::Done(last, i, j) = r else {
+        let r = unit(text, nodes, lits, p, allowed);
+        let Read::Done(q) = r else {
             return r;
         };
-        m = emit_if(nodes, i, again, CAT_NODE);
-        k = j;
-        if !unit_at(text, last) {
-            return Read::Done(last, m, k);
+        let next = q.place;
+        let n = emit_if(nodes, q.nodes, again, CAT_NODE);
+        p = Progress {
+            place: next,
+            nodes: n,
+            leaves: q.leaves,
+        };
+        if !unit_at(text, next) {
+            return Read::Done(p);
         }
-        next = last;
         again = true;
     }
 }
 
 // A unit: the empty word, an alternation in parentheses or a literal, and the stars after it.
-fn unit(
-    text: &[u8],
-    nodes: &mut [u8],
-    lits: &mut [u8],
-    at: usize,
-    n: usize,
-    l: usize,
-    allowed: usize,
-) -> Read
-    requires { ⌜ Begun (length (now text)) at n l × (allowed ≤ openLimit) ⌝ }
-    ensures { λ r. ⌜ UnitRead (now (text .entry)) allowed at (out n (now (nodes .entry)) l (now (lits .entry))) (now (nodes .exit)) (now (lits .exit)) r ⌝ }
+fn unit(text: &[u8], nodes: &mut [u8], lits: &mut [u8], from: Progress, allowed: usize) -> Read
+    requires { ⌜ Begun (length (now text)) from × (allowed ≤ openLimit) ⌝ }
+    ensures { λ r. ⌜ UnitRead (now (text .entry)) allowed (state from (now (nodes .entry)) (now (lits .entry))) (now (nodes .exit)) (now (lits .exit)) r ⌝ }
 {
+    let at = from.place;
     if is(text, at, b'(') {
         if allowed == 0 {
-            return refused(OPEN_DEEP, at);
+            return Read::Refused(refused_at(at, OPEN_DEEP));
         }
         if is(text, at + 1, b')') {
-            emit(nodes, n, EMPTY_NODE);
-            return stars(text, nodes, at + 2, n + 1, l);
+            emit(nodes, from.nodes, EMPTY_NODE);
+            let void = Progress {
+                place: at + 2,
+                nodes: from.nodes + 1,
+                leaves: from.leaves,
+            };
+            return stars(text, nodes, void);
         }
-        let r = alternation(text, nodes, lits, at + 1, n, l, allowed - 1);
-        let Read::Done(next, m, k) = r else {
+        let mut inner = from;
+        inner.place += 1;
+        let r = alternation(text, nodes, lits, inner, allowed - 1);
+        let Read::Done(p) = r else {
             return r;
         };
+        let next = p.place;
         if is(text, next, b')') {
-            return stars(text, nodes, next + 1, m, k);
+            let mut closed = p;
+            closed.place += 1;
+            return stars(text, nodes, closed);
         }
-        return refused(OPEN_UNCLOSED, next);
+        return Read::Refused(refused_at(next, OPEN_UNCLOSED));
     }
     if unit_at(text, at) {
-        return literal(text, nodes, lits, at, n, l);
+        return literal(text, nodes, lits, from);
     }
-    missing(text, at, allowed)
+    Read::Refused(missing(text, at, allowed))
 }
 
 // Reads a whole text.
 pub fn read_text(text: &[u8], nodes: &mut [u8], lits: &mut [u8]) -> Read
     requires { ⌜ length (now text) ≤ textLimit ⌝ }
-    ensures { λ r. ⌜ TextRead (now (text .entry)) (now (nodes .entry)) (now (nodes .exit)) (now (lits .entry)) (now (lits .exit)) r ⌝ }
+    ensures { λ r. ⌜ TextRead (now (text .entry)) (now (nodes .entry)) (now (lits .entry)) (now (nodes .exit)) (now (lits .exit)) r ⌝ }
 {
-    let r = alternation(text, nodes, lits, 0, 0, 0, OPEN_LIMIT);
-    let Read::Done(next, m, k) = r else {
+    let from = Progress {
+        place: 0,
+        nodes: 0,
+        leaves: 0,
+    };
+    let r = alternation(text, nodes, lits, from, OPEN_LIMIT);
+    let Read::Done(p) = r else {
         return r;
     };
+    let next = p.place;
     if is(text, next, b')') {
-        return refused(CLOSE_UNOPENED, next);
+        return Read::Refused(refused_at(next, CLOSE_UNOPENED));
     }
-    Read::Done(next, m, k)
+    Read::Done(p)
 }

@@ -8,7 +8,7 @@ use console::say_field;
 use console::wide;
 use libc::STDIN_FILENO;
 use libc::STDOUT_FILENO;
-use maker::SheetAnswer;
+use sheet_call::SheetAnswer;
 
 const SHOWN: usize = 24;
 
@@ -40,7 +40,7 @@ fn made(sheet: &[u8], n: usize) {
 
 fn report(text: &[u8], sheet: &mut [u8]) {
     say(front(text, SHOWN));
-    let r = maker::make(text, sheet);
+    let r = sheet_call::make(text, sheet);
     match r {
         SheetAnswer::Made(n) => {
             made(sheet, n);

@@ -1,7 +1,7 @@
 use borrow.Author.Needs.{needs}
 use mathlib.Core.Path.{ap}
-use Rattle.maker.specs.Answer.{sheetEnd}
-use Rattle.maker.specs.declared.SheetAnswer.{SheetAnswer as Made}
+use Rattle.sheet_call.specs.Answer.{sheetEnd}
+use Rattle.sheet_call.specs.declared.SheetAnswer.{SheetAnswer as Made}
 use Rattle.satchelram.proofs.Small.{parts-fit, sheet-exports}
 use Rattle.satchelram.proofs.satchelram_sheet.Statement.{statement}
 use Rattle.satchelram.proofs.satchelram_sheet.Tie as tie

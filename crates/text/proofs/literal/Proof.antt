@@ -1,5 +1,6 @@
-use Prim.Native.Nat.{_+_, _<_}
+-- A plain byte is a leaf; another literal is its copies; a fault ends the walk. The stars after it are read in each case.
 use borrow.Author.Needs.{needs}
+use Prim.Native.Nat.{_<_}
 use lib.ListN.{length, drop}
 use mathlib.Core.Bool.{true}
 use mathlib.Core.Path.{sym, _∙_, _≡_}
@@ -7,43 +8,51 @@ use native.Mathlib.Omega.{arith}
 use Rattle.lexer.proofs.Units.{plain-inside}
 use Rattle.lexer.specs.Places.{plainAt, Taken}
 use Rattle.text.proofs.Faults.{fails-token}
-use Rattle.text.proofs.Parts.{part-plain, part-literal}
+use Rattle.text.proofs.Parts.{more, part-plain, part-literal}
 use Rattle.text.proofs.Readers.{begun, plain-onward, literal-onward}
-use Rattle.text.specs.Reads.{out, Onward}
+use Rattle.text.specs.declared.Progress.{Progress}
+use Rattle.text.specs.Reads.{state, Onward}
 use Rattle.text.proofs.literal.Statement.{statement}
 use Rattle.text.proofs.literal.Tie as tie
 
--- back to the start, from a plain byte and from a literal that was read
+-- A PLAIN BYTE
+-- back to the start, and from the second byte stored to the test
 abbrev start : tie.Then1 → tie.Start
 start c = c .before .before .before .before .before
 
+abbrev stored : tie.After-emit2 → tie.Then1
+stored c = c .before .before .before .before .before .before .before
+
+plain : (c : tie.Then1) → let args = start c .args in plainAt (drop (args .from .place) (args .text .now)) ≡ true
+plain c = sym (c .before .plain-at .ensures) ∙ c .if1 .taken
+
+inside : (c : tie.Then1) → let args = start c .args in args .from .place < length (args .text .now)
+inside c = plain-inside (start c .args .text .now) (start c .args .from .place) (plain c)
+
+plain-far : (c : tie.Then1) → let args = start c .args in Onward (length (args .text .now)) (args .from) (more (args .from) 1 1 1) 2
+plain-far c = plain-onward (start c .pre .0) (inside c)
+
+-- A LITERAL THAT WAS READ
+-- back to the start, and from its leaves to the literal
 abbrev begin : tie.After-q2 → tie.Start
 begin c = c .before .before .before .before .before .before .before .before
 
-plain : (c : tie.Then1) → let args = start c .args in plainAt (drop (args .at) (args .text .now)) ≡ true
-plain c = sym (c .before .plain-at .ensures) ∙ c .if1 .taken
-
-inside : (c : tie.Then1) → let args = start c .args in args .at < length (args .text .now)
-inside c = plain-inside (start c .args .text .now) (start c .args .at) (plain c)
-
-plain-far : (c : tie.Then1) → let args = start c .args in Onward (length (args .text .now)) (args .at) (args .at + 1) (args .n + 1) (args .l + 1) 2
-plain-far c = plain-onward (start c .pre .0) (inside c)
+abbrev known : tie.After-emit-times → tie.After-q2
+known c = c .before .before .before .before .before .before .before
 
 taken :
     (c : tie.After-q2) →
     let args = begin c .args in
     let q = c .q2 .given .0 in
-    Taken (args .text .now) (args .at) (q .0) (q .1 .0) (q .1 .1 .0) (q .1 .1 .1 .0)
+    Taken (args .text .now) (args .from .place) (q .0) (q .1 .0) (q .1 .1 .0) (q .1 .1 .1 .0)
 taken c = rw (c .q2 .given .1) at (c .before .before .literal-at .ensures)
 
-literal-far :
-    (c : tie.After-letters) →
-    let told = c .before .before .before .before .before .before .before in
-    let args = begin told .args in
-    Onward (length (args .text .now)) (args .at) (told .q2 .given .0 .1 .1 .1 .0) (c .before .before .before .before .repeat .result) (c .letters .result) 2
-literal-far c =
-    let told = c .before .before .before .before .before .before .before in
-    literal-onward (begin told .pre .0) (taken told) (c .before .before .before .before .repeat .ensures) (c .letters .ensures)
+-- as far as it goes
+abbrev end : tie.After-emit-times → Progress
+end c = record { place = known c .q2 .given .0 .1 .1 .1 .0; nodes = c .before .before .before .before .repeat .result; leaves = c .emit-times .result }
+
+literal-far : (c : tie.After-emit-times) → let args = begin (known c) .args in Onward (length (args .text .now)) (args .from) (end c) 2
+literal-far c = literal-onward (begin (known c) .pre .0) (taken (known c)) (c .before .before .before .before .repeat .ensures (known c .q2 .given .0 .0)) (c .emit-times .ensures)
 
 plain-at-requires : tie.Need-plain-at-requires
 plain-at-requires c κs = search needs
@@ -57,19 +66,17 @@ shared-slice-read-emit c = inside (c .before .before .before .before .before .be
 emit-requires-2 : tie.Need-emit-requires-2
 emit-requires-2 c κs = search needs
 
-add-stars : tie.Need-add-stars
-add-stars c = search needs
+add-t24 : tie.Need-add-t24
+add-t24 c = search needs
 
-add-stars-2 : tie.Need-add-stars-2
-add-stars-2 c = search needs
+add-t25 : tie.Need-add-t25
+add-t25 c = search needs
 
-add-stars-3 : tie.Need-add-stars-3
-add-stars-3 c = search needs
+add-t26 : tie.Need-add-t26
+add-t26 c = search needs
 
 stars-requires : tie.Need-stars-requires
-stars-requires c κs =
-    let read = c .before .before .before .before .before .before .before .before .before .before in
-    begun (plain-far read) (start read .pre .0 .short)
+stars-requires c κs = let plainly = stored (c .before .before .before .before .before) in begun (plain-far plainly) (start plainly .pre .0 .short)
 
 same-length : tie.Need-same-length
 same-length c = search needs
@@ -79,11 +86,12 @@ same-length-2 c = search needs
 
 returns : tie.Need-returns
 returns c =
-    let read = c .before .before .before .before .before .before .before .before .before .before .before .before .before in
-    let args = start read .args in
-    let stored = c .before .before .before .before .before .before .emit2 in
-    λ d. c .before .before .stars .ensures d (args .at) (out (args .n) (args .nodes .now) (args .l) (args .lits .now)) (stored .last .0)
-    (part-plain (plain read) (c .before .before .before .before .before .before .before .before .before .before .before .emit .ensures) (stored .ensures)) (plain-far read)
+    let stars = c .before .before .stars in
+    let second = c .before .before .before .before .before .before .before .before in
+    let first = second .before .before .before .before .before .emit in
+    let args = start (stored second) .args in
+    λ d. stars .ensures d (state (args .from) (args .nodes .now) (args .lits .now)) (second .emit2 .last .0)
+    (part-plain (plain (stored second)) (first .ensures) (second .emit2 .ensures)) (plain-far (stored second))
 
 literal-at-requires : tie.Need-literal-at-requires
 literal-at-requires c κs = search needs
@@ -93,9 +101,9 @@ enum-known-q c = search needs
 
 returns-2 : tie.Need-returns-2
 returns-2 c =
-    let args = c .before .before .before .before .before .before .before .before .before .args in
-    let q = c .before .q .given in
-    λ d. fails-token (args .text .now) d (args .at) (q .0 .0) (rw (q .1) at (c .before .before .before .literal-at .ensures))
+    let told = c .before in
+    let start = told .before .before .before .before .before .before .before .before in
+    λ d. fails-token (start .args .text .now) d (start .args .from .place) (told .q .given .0 .0) (rw (told .q .given .1) at (told .before .before .literal-at .ensures))
 
 enum-known-q-2 : tie.Need-enum-known-q-2
 enum-known-q-2 c = search needs
@@ -103,15 +111,17 @@ enum-known-q-2 c = search needs
 repeat-requires : tie.Need-repeat-requires
 repeat-requires c κs =
     let b = begin (c .before .before) .pre .0 in
-    omega (arith, taken (c .before .before) .most, b .inside, b .short, b .nodes)
+    let told = taken (c .before .before) in
+    (omega (arith, told .further, told .inside, b .short, b .nodes), told .least, told .most)
 
-letters-requires : tie.Need-letters-requires
-letters-requires c κs =
+emit-times-requires : tie.Need-emit-times-requires
+emit-times-requires c κs =
     let b = begin (c .before .before .before .before .before .before) .pre .0 in
-    omega (arith, taken (c .before .before .before .before .before .before) .most, b .inside, b .short, b .leaves)
+    let told = taken (c .before .before .before .before .before .before) in
+    omega (arith, told .most, told .further, told .inside, b .short, b .leaves)
 
 stars-requires-2 : tie.Need-stars-requires-2
-stars-requires-2 c κs = begun (literal-far (c .before .before .before)) (begin (c .before .before .before .before .before .before .before .before .before .before) .pre .0 .short)
+stars-requires-2 c κs = begun (literal-far (c .before .before .before)) (begin (known (c .before .before .before)) .pre .0 .short)
 
 same-length-3 : tie.Need-same-length-3
 same-length-3 c = search needs
@@ -121,11 +131,12 @@ same-length-4 c = search needs
 
 returns-3 : tie.Need-returns-3
 returns-3 c =
-    let done = c .before .before .before .before .before .before in
-    let told = done .before .before .before .before .before .before .before in
+    let stars = c .before .before .stars2 in
+    let all = c .before .before .before .before .before .before in
+    let told = known all in
     let args = begin told .args in
-    λ d. c .before .before .stars2 .ensures d (args .at) (out (args .n) (args .nodes .now) (args .l) (args .lits .now)) (done .letters .last .0)
-    (part-literal (taken told) (done .before .before .before .before .repeat .ensures) (done .letters .ensures)) (literal-far done)
+    λ d. stars .ensures d (state (args .from) (args .nodes .now) (args .lits .now)) (all .emit-times .last .0)
+    (part-literal (taken told) (all .before .before .before .before .repeat .ensures (told .q2 .given .0 .0)) (all .emit-times .ensures)) (literal-far all)
 
 pub literal-spec : {M : Type 1} → statement M
 literal-spec =
@@ -135,9 +146,9 @@ literal-spec =
     emit-requires
     shared-slice-read-emit
     emit-requires-2
-    add-stars
-    add-stars-2
-    add-stars-3
+    add-t24
+    add-t25
+    add-t26
     stars-requires
     same-length
     same-length-2
@@ -147,7 +158,7 @@ literal-spec =
     returns-2
     enum-known-q-2
     repeat-requires
-    letters-requires
+    emit-times-requires
     stars-requires-2
     same-length-3
     same-length-4

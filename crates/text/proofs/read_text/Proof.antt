@@ -1,3 +1,4 @@
+-- An alternation from the first byte: its refusal is the text's, and what is left after it is nothing or a closed parenthesis.
 use borrow.Author.Needs.{needs}
 use mathlib.Core.List.{[]}
 use mathlib.Core.Path.{refl, sym, _∙_}
@@ -5,17 +6,23 @@ use Rattle.rules.specs.Limits.{openLimit}
 use Rattle.text.proofs.Parts.{whole-closed}
 use Rattle.text.proofs.Readers.{text-done}
 use Rattle.text.specs.declared.Read.the-variants.{Done}
-use Rattle.text.specs.Reads.{out, AltRead}
+use Rattle.text.specs.Reads.{state, nothingRead, AltRead}
 use Rattle.text.proofs.read_text.Statement.{statement}
 use Rattle.text.proofs.read_text.Tie as tie
+
+-- from the match back to the call and to the start
+abbrev call : tie.After-r → tie.After-alternation
+call c = c .before .before .before .before .before .before
+
+abbrev start : tie.After-r → tie.Start
+start c = call c .before .before .before .before .before .before
 
 -- the alternation that was read
 read :
     (c : tie.After-r) →
-    let called = c .before .before .before .before .before .before in
-    let args = called .before .before .before .before .before .before .args in
-    AltRead (args .text .now) openLimit 0 (out 0 (args .nodes .now) 0 (args .lits .now)) (called .alternation .last .1 .0) (called .alternation .last .1 .1 .0)
-    (Done (c .r .given .0 .0) (c .r .given .0 .1 .0) (c .r .given .0 .1 .1 .0))
+    let args = start c .args in
+    let last = call c .alternation .last in
+    AltRead (args .text .now) openLimit (state nothingRead (args .nodes .now) (args .lits .now)) (last .1 .0) (last .1 .1 .0) (Done (c .r .given .0 .0))
 read c = rw (c .r .given .1) at (c .before .before .before .before .before .before .alternation .ensures)
 
 alternation-requires : tie.Need-alternation-requires
@@ -41,8 +48,8 @@ returns c =
 is-requires : tie.Need-is-requires
 is-requires c κs = search needs
 
-refused-requires : tie.Need-refused-requires
-refused-requires c κs = search needs
+refused-at-requires : tie.Need-refused-at-requires
+refused-at-requires c κs = search needs
 
 same-length-3 : tie.Need-same-length-3
 same-length-3 c = search needs
@@ -51,7 +58,9 @@ same-length-4 : tie.Need-same-length-4
 same-length-4 c = search needs
 
 returns-2 : tie.Need-returns-2
-returns-2 c = rw (c .refused .ensures) (whole-closed (read (c .before .before .before .before) .0) (sym (c .before .before .is .ensures) ∙ c .before .if1 .taken))
+returns-2 c =
+    let closed = sym (c .before .before .is .ensures) ∙ c .before .if1 .taken in
+    rw (c .refused-at .ensures) (whole-closed (read (c .before .before .before .before) .0) closed)
 
 same-length-5 : tie.Need-same-length-5
 same-length-5 c = search needs
@@ -62,7 +71,7 @@ same-length-6 c = search needs
 returns-3 : tie.Need-returns-3
 returns-3 c =
     let told = c .before .before .before in
-    text-done (read told) (told .before .before .before .before .before .before .before .before .before .before .before .before .pre) (sym (c .before .is .ensures) ∙ c .if1 .left)
+    text-done (read told) (sym (c .before .is .ensures) ∙ c .if1 .left)
 
 pub read-text-spec : {M : Type 1} → statement M
 read-text-spec =
@@ -75,7 +84,7 @@ read-text-spec =
     same-length-2
     returns
     is-requires
-    refused-requires
+    refused-at-requires
     same-length-3
     same-length-4
     returns-2

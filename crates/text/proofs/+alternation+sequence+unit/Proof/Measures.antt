@@ -17,7 +17,7 @@ After = Out 3 ps r
 
 -- the text left and the parentheses allowed
 abbrev left : Measures 3 ps ℕ
-left κs a = length (a .0 .now) - a .1 .1 .1 .0 + a .1 .1 .1 .1 .1 .1 .0
+left κs a = length (a .0 .now) - a .1 .1 .1 .0 .place + a .1 .1 .1 .1 .0
 
 abbrev pub μ-alternation : Measures 3 ps ℕ
 μ-alternation κs a = 3 * left κs a + 2

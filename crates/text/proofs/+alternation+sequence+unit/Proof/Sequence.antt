@@ -1,28 +1,30 @@
--- A sequence, turn by turn.
+-- A sequence, turn by turn: the units read so far and the next one are the units so far, with the concatenation after them.
 use Prim.Native.Nat.{ℕ, _-_}
 use borrow.Author.Needs.{needs}
 use borrow.Author.Tests.{not-true, not-false}
 use lib.ListN.{length}
 use mathlib.Core.Path.{sym, _∙_}
 use native.Mathlib.Omega.{arith}
-use Rattle.emission.proofs.Stores.{op-short}
+use Rattle.buffers.proofs.Stores.{op-short}
+use Rattle.sheet.specs.Nodes.{catNode}
+use Rattle.text.specs.declared.Progress.{Progress}
 use Rattle.text.specs.declared.Read.the-variants.{Done}
-use Rattle.text.specs.Reads.{out, Onward, SeqPart, UnitRead}
-use Rattle.text.proofs.Parts.{SeqSoFar, seq-starts, seq-unit, seq-fails, seq-goes-on}
+use Rattle.text.specs.Reads.{state, Onward, SeqPart, UnitRead}
+use Rattle.text.proofs.Parts.{counting, SeqSoFar, seq-starts, seq-unit, seq-fails, seq-goes-on}
 use Rattle.text.proofs.Readers.{with-operator, Turn, turn-starts, turn-goes-on}
 use Rattle.text.proofs.+alternation+sequence+unit.Proof.Measures.{Before, After, sequence-at, unit-below}
 use Rattle.text.proofs.sequence.Reads as sequence
 use Rattle.text.proofs.unit.Reads as unit
-use Rattle.emission.proofs.emit_if.Reads as emit-if
+use Rattle.buffers.proofs.emit_if.Reads as emit-if
 use Rattle.lexer.proofs.unit_at.Reads as unit-starts
 use Rattle.text.proofs.+alternation+sequence+unit.Lts-sequence as lts
 
 abbrev Inv-loop : lts.InvT-loop
-Inv-loop text nodes₀ lits₀ at n l allowed next₀ m₀ k₀ again₀ nodes lits next m k again =
-    SeqSoFar again text allowed at (out n nodes₀ l lits₀) next (out m nodes k lits) × Turn text at (out n nodes₀ l lits₀) next (out m nodes k lits)
+Inv-loop text nodes₀ lits₀ allowed p₀ again₀ nodes lits p again =
+    SeqSoFar again text allowed (state p₀ nodes₀ lits₀) (state p nodes lits) × Turn text (state p₀ nodes₀ lits₀) (state p nodes lits)
 
 abbrev μ-loop : lts.MeasureT-loop
-μ-loop text nodes₀ lits₀ at n l allowed next₀ m₀ k₀ again₀ nodes lits next m k again = length text - next
+μ-loop text nodes₀ lits₀ allowed p₀ again₀ nodes lits p again = length text - p .place
 
 module _ (t : ℕ) where
   abbrev claims : lts.Claims
@@ -32,15 +34,22 @@ module _ (t : ℕ) where
   abbrev At : (lts.Claims → Before → After → lts.InvT-loop → lts.MeasureT-loop → Type 0) → Type 0
   At of = of claims (sequence-at t) sequence.Post Inv-loop μ-loop
 
-  -- from the match back to the call, to the head of the loop and to the start
+  -- from the match back to the call, to the head of the loop and to the start; from the operator and the test after it to the match
   abbrev call : At lts.After-r → At lts.After-unit
   call c = c .before .before .before .before .before .before
 
   abbrev head : At lts.After-r → At lts.At-loop
-  head c = c .before .before .before .before .before .before .before .before .before
+  head c = call c .before .before .before
 
   abbrev start : At lts.After-r → At lts.Start
-  start c = c .before .before .before .before .before .before .before .before .before .before .before .before .before
+  start c = head c .before .before .before .before
+
+  abbrev match : At lts.After-emit-if → At lts.After-r
+  match c = c .before .before .before
+
+  -- how far the unit goes
+  abbrev end : At lts.After-r → Progress
+  end c = c .r .given .0 .0
 
   -- the unit that a turn read
   read :
@@ -48,24 +57,22 @@ module _ (t : ℕ) where
       let args = start c .args in
       let loop = head c .loop in
       let last = call c .unit .last in
-      UnitRead (args .text .now) (args .allowed) (loop .next) (out (loop .m) (loop .nodes) (loop .k) (loop .lits)) (last .1 .0) (last .1 .1 .0)
-      (Done (c .r .given .0 .0) (c .r .given .0 .1 .0) (c .r .given .0 .1 .1 .0))
+      UnitRead (args .text .now) (args .allowed) (state (loop .p) (loop .nodes) (loop .lits)) (last .1 .0) (last .1 .1 .0) (Done (end c))
   read c = rw (c .r .given .1) at (c .before .before .before .before .before .before .unit .ensures)
 
   -- what was read before, with it and the concatenation after it
   joined :
       (c : At lts.After-emit-if) →
-      let told = c .before .before .before in
+      let told = match c in
       let args = start told .args in
-      let (last, (i, (j, e))) = told .r .given .0 in
-      SeqPart (args .text .now) (args .allowed) (args .at) (out (args .n) (args .nodes .now) (args .l) (args .lits .now)) last
-      (out (c .emit-if .result) (c .emit-if .last .0) j (call told .unit .last .1 .1 .0))
-      × Onward (length (args .text .now)) (args .at) last (c .emit-if .result) j 1
+      let q = counting (end told) (c .emit-if .result) in
+      SeqPart (args .text .now) (args .allowed) (state (args .from) (args .nodes .now) (args .lits .now)) (state q (c .emit-if .last .0) (call told .unit .last .1 .1 .0))
+      × Onward (length (args .text .now)) (args .from) q 1
   joined c =
-      let told = c .before .before .before in
+      let told = match c in
       let loop = head told .loop in
       let stored = c .emit-if .ensures in
-      (seq-unit (loop .inv .0) (read told .0) stored, with-operator 1 (read told .2) (loop .inv .1 .along) stored (op-short (loop .again) 2))
+      (seq-unit (loop .inv .0) (read told .0) stored, with-operator 1 (read told .2) (loop .inv .1 .along) stored (op-short (loop .again) catNode))
 
   loop-holds : At lts.Need-loop-holds
   loop-holds c = (seq-starts, turn-starts (c .before .before .before .pre .1 .0))
@@ -111,17 +118,18 @@ module _ (t : ℕ) where
 
   returns-2 : At lts.Need-returns-2
   returns-2 c =
-      let (part, far) = joined (c .before .before .before .before) in
+      let ended = c .before .before .before .before in
+      let (part, far) = joined ended in
       let over = sym (c .before .unit-at .ensures) ∙ not-true (c .before .unit-at .result) (c .if1 .taken) in
-      (part, read (c .before .before .before .before .before .before .before) .1, over, far)
+      (part, read (match ended) .1, over, far)
 
   loop-less : At lts.Need-loop-less
-  loop-less c = let far = read (c .before .before .before .before .before .before .before) .2 in omega (arith, far .further, far .inside)
+  loop-less c = let far = read (match (c .before .before .before .before)) .2 in omega (arith, far .further, far .inside)
 
   loop-again : At lts.Need-loop-again
   loop-again c =
       let ended = c .before .before .before .before in
-      let told = ended .before .before .before in
+      let told = match ended in
       let kept = call told .unit .kept in
       let (part, far) = joined ended in
       let more = sym (c .before .unit-at .ensures) ∙ not-false (c .before .unit-at .result) (c .if1 .left) in

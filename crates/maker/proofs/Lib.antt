@@ -1,3 +1,0 @@
-pub mod Walks
-pub mod Laid
-pub mod Call
