@@ -2,11 +2,11 @@
 //
 // What is put goes onto a page of the caller's, at a place that the caller holds too. A full page is written and begun again, and a program ends
 // with `close`, so that output goes out in pieces as long as the page. After a write that failed nothing more is written.
-ghost use Prim.Native.Nat.{_<_, _≤_};
+ghost use Prim.Native.Nat.{_≤_};
 ghost use lib.ListN.{length};
-ghost use Rattle.rules.specs.Limits.{byteValues};
 use libc::STDERR_FILENO;
 use libc::STDOUT_FILENO;
+use mapping::Place;
 
 // The place after a write that failed: beyond any page.
 const LOST: usize = 1 << 60;
@@ -65,24 +65,36 @@ pub fn put_number(page: &mut [u8], at: &mut usize, n: u64) {
     put(page, at, &digits[..k]);
 }
 
-// A byte as a number.
-pub fn wide(byte: u8) -> u64
-    ensures { λ r. ⌜ r < byteValues ⌝ }
-{
-    byte as u64
+// The entry for a place of a name, or 0 where the mapping has none.
+fn entry_at(mapping: &[u8], i: usize) -> u64 {
+    if i < rules::NAME_LIMIT {
+        if mapping::holds(mapping.len(), i + 1) {
+            let q = mapping::entry(mapping, Place(i));
+            return q.0 as u64;
+        }
+    }
+    0
 }
 
-// A reading: its entries with commas between them; `-` for none.
-pub fn put_reading(page: &mut [u8], at: &mut usize, entries: &[u8]) {
-    if entries.len() == 0 {
+// An entry, with a comma before it unless it is the first.
+fn put_entry(page: &mut [u8], at: &mut usize, mapping: &[u8], i: usize) {
+    if i == 0 {
+        put_number(page, at, entry_at(mapping, 0));
+        return;
+    }
+    put(page, at, b",");
+    put_number(page, at, entry_at(mapping, i));
+}
+
+// A reading of n entries, with commas between them; `-` for none.
+pub fn put_reading(page: &mut [u8], at: &mut usize, mapping: &[u8], n: usize) {
+    if n == 0 {
         put(page, at, b"-");
         return;
     }
-    put_number(page, at, wide(entries[0]));
-    let mut i = 1;
-    while i < entries.len() {
-        put(page, at, b",");
-        put_number(page, at, wide(entries[i]));
+    let mut i = 0;
+    while i < n {
+        put_entry(page, at, mapping, i);
         i += 1;
     }
 }
@@ -98,10 +110,10 @@ pub fn say_field(n: u64) {
     io::print_decimal(STDOUT_FILENO, n);
 }
 
-pub fn say_reading(entries: &[u8]) {
+pub fn say_reading(mapping: &[u8], n: usize) {
     let mut page = [0u8; 1024];
     let mut at = 0;
-    put_reading(&mut page, &mut at, entries);
+    put_reading(&mut page, &mut at, mapping, n);
     close(&page, at);
 }
 

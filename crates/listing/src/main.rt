@@ -1,7 +1,6 @@
 // The listing program of document 01: an expression and a name on two lines, every reading of the name in order.
 // It stands on the exported calls, and has no promise of its own but to be safe and to end.
 ghost use Prim.Native.Nat.{_<_};
-ghost use Rattle.rules.specs.Limits.{byteValues};
 ghost use Rattle.satchelram.specs.Packing.{secondRoom};
 use console::close;
 use console::complain;
@@ -9,15 +8,12 @@ use console::front;
 use console::put;
 use console::put_number;
 use console::put_reading;
-use console::wide;
 use libc::STDIN_FILENO;
 
 // One more byte than a text or a name may have, so that a longer line is still too long.
 const TEXT_ROOM: usize = rules::TEXT_LIMIT + 1;
 
 const NAME_ROOM: usize = rules::NAME_LIMIT + 1;
-
-const SHEET_ROOM: usize = 3 + rules::LEAF_LIMIT + rules::NODE_LIMIT;
 
 const WORK_ROOM: usize = rules::ROW_SIZE * (rules::NAME_LIMIT + 1);
 
@@ -141,29 +137,17 @@ fn second(answer: u64) -> u64
     answer / satchelram::NUMBER_ROOM % satchelram::SECOND_ROOM
 }
 
-// The byte at a place, or 0 where there is none.
-fn count_at(sheet: &[u8], at: u64) -> u64
-    ensures { λ r. ⌜ r < byteValues ⌝ }
-{
-    let place = at as usize;
-    if place < sheet.len() {
-        return wide(sheet[place]);
-    }
-    0
-}
-
 fn put_counts(page: &mut [u8], out: &mut usize, sheet: &[u8]) {
-    let leaves = count_at(sheet, 1);
     put(page, out, b"leaves ");
-    put_number(page, out, leaves);
+    put_number(page, out, sheet::leaf_count(sheet) as u64);
     put(page, out, b" nodes ");
-    put_number(page, out, count_at(sheet, leaves + 2));
+    put_number(page, out, sheet::nodes(sheet).len() as u64);
     put(page, out, b"\n");
 }
 
 // A reading on a line of its own.
 fn list_reading(page: &mut [u8], out: &mut usize, mapping: &[u8], n: usize) {
-    put_reading(page, out, front(mapping, n));
+    put_reading(page, out, mapping, n);
     put(page, out, b"\n");
 }
 
@@ -242,8 +226,8 @@ fn list_all(
 }
 
 fn list(page: &mut [u8], out: &mut usize, text: &[u8], name: &[u8]) {
-    let mut sheet = [0u8; SHEET_ROOM];
-    let mut mapping = [0u8; NAME_ROOM];
+    let mut sheet = [0u8; sheet::LONGEST];
+    let mut mapping = [0u8; mapping::MOST];
     let mut work = [0u8; WORK_ROOM];
     let answer = satchelram::satchelram_sheet(text, &mut sheet);
     if number(answer) == 0 {

@@ -15,6 +15,17 @@ pub struct Position(pub usize);
 
 const ENTRY_SIZE: usize = 1;
 
+// The bytes that the longest reading takes.
+pub const MOST: usize = ENTRY_SIZE * rules::NAME_LIMIT;
+
+// The bytes that n entries take.
+pub fn room(n: usize) -> usize
+    requires { ⌜ n ≤ nameLimit ⌝ }
+    ensures { λ r. ⌜ r ≡ entrySize * n ⌝ }
+{
+    ENTRY_SIZE * n
+}
+
 // Whether n entries have room in so many bytes.
 pub fn holds(size: usize, n: usize) -> bool
     requires { ⌜ n ≤ nameLimit ⌝ }

@@ -55,13 +55,21 @@ fn tidy_area(work: &[u8], n: usize) {
     }
 }
 
+// Whether nothing stands after n entries.
+fn ends_with(mapping: &[u8], n: usize) -> bool {
+    if n <= rules::NAME_LIMIT {
+        return all_are(mapping, mapping::room(n), 0);
+    }
+    false
+}
+
 // What first or next answered to a name of n bytes: a reading, the rest of the mapping wiped; or a number, all of it wiped.
 fn say_answer(r: u64, n: usize, mapping: &[u8], work: &[u8]) {
     tidy_area(work, n);
     if r == 0 {
         say(b" ");
-        say_reading(front(mapping, n));
-        tidy(all_are(mapping, n, 0));
+        say_reading(mapping, n);
+        tidy(ends_with(mapping, n));
     } else {
         say_field(r);
         tidy(all_are(mapping, 0, 0));
