@@ -5,7 +5,6 @@ use console::end_of;
 use console::front;
 use console::say;
 use console::say_field;
-use console::wide;
 use libc::STDIN_FILENO;
 use libc::STDOUT_FILENO;
 use sheet_call::SheetAnswer;
@@ -16,7 +15,7 @@ fn dump(bytes: &[u8]) {
     let mut i = 0;
     while i < bytes.len() {
         say(b" ");
-        io::print_hex(STDOUT_FILENO, wide(bytes[i]), 2);
+        io::print_hex(STDOUT_FILENO, buffers::word(bytes[i]), 2);
         i += 1;
     }
 }
