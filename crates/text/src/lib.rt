@@ -69,8 +69,8 @@ fn literal(text: &[u8], nodes: &mut [u8], lits: &mut [u8], from: Progress) -> Re
 {
     let at = from.place;
     if plain_at(text, at) {
-        emit(nodes, from.nodes, LEAF_NODE);
         emit(lits, from.leaves, text[at]);
+        emit(nodes, from.nodes, LEAF_NODE);
         let one = Progress {
             place: at + 1,
             nodes: from.nodes + 1,
@@ -84,8 +84,8 @@ fn literal(text: &[u8], nodes: &mut [u8], lits: &mut [u8], from: Progress) -> Re
             return Read::Refused(f);
         }
         Literal::Of(b, x, y, next) => {
-            let n = repeat(nodes, from.nodes, x, y);
             let l = emit_times(lits, from.leaves, b, y);
+            let n = repeat(nodes, from.nodes, x, y);
             let all = Progress {
                 place: next,
                 nodes: n,

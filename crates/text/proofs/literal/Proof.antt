@@ -37,7 +37,7 @@ plain-far c = plain-onward (start c .pre .0) (inside c)
 abbrev begin : tie.After-q2 → tie.Start
 begin c = c .before .before .before .before .before .before .before .before
 
-abbrev known : tie.After-emit-times → tie.After-q2
+abbrev known : tie.After-repeat → tie.After-q2
 known c = c .before .before .before .before .before .before .before
 
 taken :
@@ -48,11 +48,11 @@ taken :
 taken c = rw (c .q2 .given .1) at (c .before .before .literal-at .ensures)
 
 -- as far as it goes
-abbrev end : tie.After-emit-times → Progress
-end c = record { place = known c .q2 .given .0 .1 .1 .1 .0; nodes = c .before .before .before .before .repeat .result; leaves = c .emit-times .result }
+abbrev end : tie.After-repeat → Progress
+end c = record { place = known c .q2 .given .0 .1 .1 .1 .0; nodes = c .repeat .result; leaves = c .before .before .before .before .emit-times .result }
 
-literal-far : (c : tie.After-emit-times) → let args = begin (known c) .args in Onward (length (args .text .now)) (args .from) (end c) 2
-literal-far c = literal-onward (begin (known c) .pre .0) (taken (known c)) (c .before .before .before .before .repeat .ensures (known c .q2 .given .0 .0)) (c .emit-times .ensures)
+literal-far : (c : tie.After-repeat) → let args = begin (known c) .args in Onward (length (args .text .now)) (args .from) (end c) 2
+literal-far c = literal-onward (begin (known c) .pre .0) (taken (known c)) (c .repeat .ensures (known c .q2 .given .0 .0)) (c .before .before .before .before .emit-times .ensures)
 
 plain-at-requires : tie.Need-plain-at-requires
 plain-at-requires c κs = search needs
@@ -61,7 +61,7 @@ emit-requires : tie.Need-emit-requires
 emit-requires c κs = search needs
 
 shared-slice-read-emit : tie.Need-shared-slice-read-emit
-shared-slice-read-emit c = inside (c .before .before .before .before .before .before)
+shared-slice-read-emit c = inside (c .before .before)
 
 emit-requires-2 : tie.Need-emit-requires-2
 emit-requires-2 c κs = search needs
@@ -88,10 +88,10 @@ returns : tie.Need-returns
 returns c =
     let stars = c .before .before .stars in
     let second = c .before .before .before .before .before .before .before .before in
-    let first = second .before .before .before .before .before .emit in
+    let first = second .before .before .before .before .emit in
     let args = start (stored second) .args in
-    λ d. stars .ensures d (state (args .from) (args .nodes .now) (args .lits .now)) (second .emit2 .last .0)
-    (part-plain (plain (stored second)) (first .ensures) (second .emit2 .ensures)) (plain-far (stored second))
+    λ d. stars .ensures d (state (args .from) (args .nodes .now) (args .lits .now)) (first .last .0)
+    (part-plain (plain (stored second)) (second .emit2 .ensures) (first .ensures)) (plain-far (stored second))
 
 literal-at-requires : tie.Need-literal-at-requires
 literal-at-requires c κs = search needs
@@ -110,14 +110,14 @@ enum-known-q-2 c = search needs
 
 repeat-requires : tie.Need-repeat-requires
 repeat-requires c κs =
-    let b = begin (c .before .before) .pre .0 in
-    let told = taken (c .before .before) in
+    let b = begin (c .before .before .before .before .before .before) .pre .0 in
+    let told = taken (c .before .before .before .before .before .before) in
     (omega (arith, told .further, told .inside, b .short, b .nodes), told .least, told .most)
 
 emit-times-requires : tie.Need-emit-times-requires
 emit-times-requires c κs =
-    let b = begin (c .before .before .before .before .before .before) .pre .0 in
-    let told = taken (c .before .before .before .before .before .before) in
+    let b = begin (c .before .before) .pre .0 in
+    let told = taken (c .before .before) in
     omega (arith, told .most, told .further, told .inside, b .short, b .leaves)
 
 stars-requires-2 : tie.Need-stars-requires-2
@@ -135,16 +135,16 @@ returns-3 c =
     let all = c .before .before .before .before .before .before in
     let told = known all in
     let args = begin told .args in
-    λ d. stars .ensures d (state (args .from) (args .nodes .now) (args .lits .now)) (all .emit-times .last .0)
-    (part-literal (taken told) (all .before .before .before .before .repeat .ensures (told .q2 .given .0 .0)) (all .emit-times .ensures)) (literal-far all)
+    λ d. stars .ensures d (state (args .from) (args .nodes .now) (args .lits .now)) (all .before .before .before .before .emit-times .last .0)
+    (part-literal (taken told) (all .repeat .ensures (told .q2 .given .0 .0)) (all .before .before .before .before .emit-times .ensures)) (literal-far all)
 
 pub literal-spec : {M : Type 1} → statement M
 literal-spec =
     tie.close
     (tie.spec
     plain-at-requires
-    emit-requires
     shared-slice-read-emit
+    emit-requires
     emit-requires-2
     add-t24
     add-t25
@@ -157,8 +157,8 @@ literal-spec =
     enum-known-q
     returns-2
     enum-known-q-2
-    repeat-requires
     emit-times-requires
+    repeat-requires
     stars-requires-2
     same-length-3
     same-length-4
