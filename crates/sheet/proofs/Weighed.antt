@@ -124,9 +124,9 @@ module _ {xs : List ℕ} {i sum : ℕ} {fine : Bool} (c : Passing xs i sum fine)
         low = omega (arith, c .low);
         high = omega (arith, c .high);
         weighed = λ f.
-          let so = and-true-left fine (leb (noneWaiting + oneWaiting) (sum + w - oneWaiting)) f in
-          let over = leb-true (noneWaiting + oneWaiting) (sum + w - oneWaiting) (and-true-right fine (leb (noneWaiting + oneWaiting) (sum + w - oneWaiting)) f) in
-          weighed-on (c .weighed so) (sum + w - oneWaiting) h (omega arith) next over;
+            let so = and-true-left fine (leb (noneWaiting + oneWaiting) (sum + w - oneWaiting)) f in
+            let over = leb-true (noneWaiting + oneWaiting) (sum + w - oneWaiting) (and-true-right fine (leb (noneWaiting + oneWaiting) (sum + w - oneWaiting)) f) in
+            weighed-on (c .weighed so) (sum + w - oneWaiting) h (omega arith) next over;
       }
 
   pub passing-right : (L : ℕ) → length xs ≤ i → length xs ≤ nodeLimit → L ≤ nodeLimit → fine ≡ true

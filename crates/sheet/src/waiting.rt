@@ -15,9 +15,9 @@ use crate::CAT_NODE;
 use crate::EMPTY_NODE;
 use crate::LEAF_NODE;
 use crate::STAR_NODE;
-use crate::UNION_NODE;
 use crate::SheetFault;
 use crate::SheetTest;
+use crate::UNION_NODE;
 
 // The sum of the fast pass: specs/Weights.antt.
 const ONE_WAITING: u64 = 65536;
