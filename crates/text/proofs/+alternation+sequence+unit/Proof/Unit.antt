@@ -132,7 +132,7 @@ module _ (t : ℕ) where
   add-t22 c = let b = start (c .before .before .before .before .before .before .before) .pre .1 .0 in omega (arith, b .inside, b .short, b .nodes)
 
   stars-requires : At lts.Need-stars-requires
-  stars-requires c κs = begun (void-far (c .before .before .before .before .before .before)) (start (c .before .before .before .before .before .before .before .before) .pre .1 .0 .short)
+  stars-requires c κs = let empty = c .before .before .before .before .before .before in begun (void-far empty) (start (empty .before .before) .pre .1 .0 .short)
 
   same-length : At lts.Need-same-length
   same-length c = search needs
