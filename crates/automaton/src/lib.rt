@@ -1,4 +1,6 @@
 // From an accepted sheet to the tables of its positions: what may follow what, where a word may end, which positions take a byte.
+#![tactic(auto)]
+
 ghost use Rattle.std.specs.Prelude.{◌≡◌, List, [], ◌∷◌, map, ℕ, ◌+◌, ◌*◌, ◌≤◌, ◌<◌, length};
 ghost use Rattle.std.proofs.Math.Option.{none, some};
 ghost use Rattle.rules.specs.Limits.{leaf_limit, node_limit, waiting_limit};

@@ -1,4 +1,6 @@
 // Sets of positions as bits. Set k of a slice of words stands at its words SET_WORDS * k and on; a set by itself is set 0 of a slice.
+#![tactic(auto)]
+
 ghost use Rattle.std.specs.Prelude.{◌≡◌, ◌||◌, ◌&&◌, cond, false, not, ℕ, ◌+◌, ◌*◌, ◌/◌, ◌%◌, ◌^◌, ◌≤◌, ◌<◌, length, get_or, eqb};
 ghost use Rattle.std.specs.Int.Count.{count_trailing_zeros};
 ghost use Rattle.bits.specs.Sets.{word_bits, word_bytes, byte_bits, set_words, set_bits, set_bytes, bit, has, row_has, share, size_of, LeastFrom};

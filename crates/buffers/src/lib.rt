@@ -1,4 +1,6 @@
 // Bytes in lent buffers: stored one after the other and counted where there is no room, copied, wiped, and read as numbers.
+#![tactic(auto)]
+
 ghost use Rattle.std.specs.Prelude.{◌≡◌, ◌++◌, ◌+◌, ◌<◌, ◌≤◌, length, take, drop, replicate, set};
 ghost use Rattle.std.proofs.lemmas.List.Edits.{sets};
 ghost use Rattle.rules.specs.Limits.{byte_values, count_limit, wiped, filled};

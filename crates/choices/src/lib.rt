@@ -1,4 +1,6 @@
 // Choices among live positions: the least reading of a name, the reading after a given one, and whether a sequence is a reading.
+#![tactic(auto)]
+
 ghost use Rattle.std.specs.Prelude.{◌≡◌, ◌&&◌, true, ◌++◌, ℕ, ◌+◌, ◌*◌, ◌<◌, ◌≤◌, T, length, take, drop};
 ghost use Rattle.rules.specs.Limits.{name_limit, row_size, area_for};
 ghost use Rattle.mapping.specs.Entries.{entry_size, entry_values, beyond, given};

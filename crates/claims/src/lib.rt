@@ -1,1 +1,2 @@
 // What the library promises, stated and proved. There is no code.
+#![tactic(auto)]

@@ -2,6 +2,8 @@
 //
 // What is put goes onto a page of the caller's, at a place that the caller holds too. A full page is written and begun again, and a program ends
 // with `close`, so that output goes out in pieces as long as the page. After a write that failed nothing more is written.
+#![tactic(auto)]
+
 ghost use Rattle.std.specs.Prelude.{◌≤◌, length};
 
 use libc::{STDERR_FILENO, STDOUT_FILENO};

@@ -1,4 +1,6 @@
 // Bytes to tokens with their places: what stands at a place of a text, and the walks over all tokens.
+#![tactic(auto)]
+
 ghost use Rattle.std.specs.Prelude.{◌≡◌, true, false, ◌+◌, ◌-◌, ◌<◌, ◌≤◌, length, get_or, drop};
 ghost use Rattle.rules.specs.Limits.{text_limit};
 ghost use Rattle.lexer.specs.Bytes.{left_parenthesis, backslash, digit_zero, kind_of, is_digit};

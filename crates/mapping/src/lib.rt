@@ -1,4 +1,6 @@
 // Readings in mapping buffers: an entry for each place of a name, read and written here and nowhere else.
+#![tactic(auto)]
+
 ghost use Rattle.std.specs.Prelude.{◌≡◌, ◌∷◌, ℕ, ◌+◌, ◌*◌, ◌<◌, ◌≤◌, leb, length, get_or};
 ghost use Rattle.rules.specs.Limits.{name_limit, filled};
 ghost use Rattle.mapping.specs.Entries.{entry_size, entry_values, stored, entries, Put};

@@ -6,6 +6,8 @@
 //
 // Sheets, names and sequences are in hexadecimal, `-` for an empty one. Before every call the buffers are filled with rubbish, and after it
 // they are looked at; what is not as document 01 says is printed as `untidy`.
+#![tactic(auto)]
+
 ghost use Rattle.std.specs.Prelude.{◌≤◌, ◌<◌, length};
 
 use console::{all_are, end_of, front, say, say_field, say_reading};

@@ -1,4 +1,6 @@
 // The nodes of a literal with its repeat, stored one after the other.
+#![tactic(auto)]
+
 ghost use Rattle.std.specs.Prelude.{◌≡◌, ◌++◌, ℕ, ◌+◌, ◌<◌, ◌≤◌, ltb};
 ghost use Rattle.rules.specs.Limits.{most_copies, nodes_aByte, count_limit};
 ghost use Rattle.buffers.specs.Wrote.{Wrote, op_if};

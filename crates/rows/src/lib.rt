@@ -1,4 +1,6 @@
 // Rows of live positions in the work area: filled from the right, and looked at.
+#![tactic(auto)]
+
 ghost use Rattle.std.specs.Prelude.{◌≡◌, List, ◌∷◌, ℕ, ◌+◌, ◌*◌, ◌<◌, ◌≤◌, length, drop};
 ghost use Rattle.rules.specs.Limits.{name_limit, row_size, area_for};
 ghost use Rattle.language.specs.Reading.{Pattern};

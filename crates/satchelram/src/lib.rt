@@ -1,4 +1,6 @@
 // The calls as the workstation links them: packing, and nothing else.
+#![tactic(auto)]
+
 ghost use Rattle.std.specs.Prelude.{◌≡◌, [], ◌<◌};
 ghost use Rattle.text.specs.Outcome.{SheetCall};
 ghost use Rattle.reader.specs.Outcome.{AcceptCall, FirstCall, NextCall, CheckCall};

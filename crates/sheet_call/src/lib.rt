@@ -1,4 +1,6 @@
 // The sheet call: refusals in their order, or the sheet; zeros elsewhere.
+#![tactic(auto)]
+
 ghost use Rattle.std.specs.Prelude.{◌≡◌, List, ℕ, ◌≤◌, length};
 ghost use Rattle.rules.specs.Limits.{text_limit, leaf_limit, node_limit, wiped};
 ghost use Rattle.text.specs.Walk.{fault, parse};

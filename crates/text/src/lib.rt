@@ -1,4 +1,6 @@
 // Expression text to nodes and literals: alternation, sequence and unit read a text and store both as they go.
+#![tactic(auto)]
+
 ghost use Rattle.std.specs.Prelude.{◌≡◌, true, false, ℕ, ◌≤◌, length, drop};
 ghost use Rattle.rules.specs.Limits.{text_limit, open_limit};
 ghost use Rattle.lexer.specs.Bytes.{left_parenthesis};

@@ -1,5 +1,7 @@
 // Runs the sheet call on each line of standard input, over buffers full of rubbish: every text case of document 01 and of the points decided.
 // It prints the front of the text, the number and the second number; a short sheet's bytes; and `not wiped` where a byte after the sheet is left.
+#![tactic(auto)]
+
 use console::{all_are, end_of, front, say, say_field};
 use libc::{STDIN_FILENO, STDOUT_FILENO};
 use sheet_call::SheetAnswer;
