@@ -1,0 +1,13 @@
+use Prim.Native.Nat.{◌≤◌}
+use native.Mathlib.Omega.{arith}
+use Rattle.bits.specs.Sets.{word_bytes}
+use Rattle.bits.proofs.Bytes.{Got, got_start, got_turn, got_end}
+use Rattle.bits.proofs.get_word.Given as goal
+
+abbrev pub invariant-loop-i : goal.invariant-loop-i
+invariant-loop-i l =
+    (l.i ≤ word_bytes) × Got l.row l.at l.i l.x
+
+abbrev pub decreases-loop-i : goal.decreases-loop-i
+decreases-loop-i l =
+    l.i

@@ -1,0 +1,68 @@
+use Prim.Native.Nat.{◌≤◌, ◌-◌}
+use native.Mathlib.Omega.{arith}
+use lib.ListN.{length}
+use Rattle.sheet.proofs.Tests.{Counted, count_start, count_most, count-more, count_fewer, count_same, pair_few, star-few, count_left, count_many, count-leaves, count-right}
+use Rattle.sheet.proofs.waiting.test_in_order.Goals as goal
+
+
+
+pub loop-i-init : goal.loop-i-init
+loop-i-init c = (omega arith, omega arith, omega arith, count_start _)
+
+pub loop-i-preserved-then-most-waiting : goal.loop-i-preserved-then-most-waiting
+loop-i-preserved-then-most-waiting c =
+    let if1 = c.if-node-lt-CAT_NODE in
+    let loop = c.loop-i in
+    (omega arith, omega arith, omega arith, count_most loop.invariant.3 (omega arith) if1.true c.leaf_of-leaves.result c.leaf_of-leaves.ensures.0 c.if-most-waiting.true)
+
+pub loop-i-preserved-else-most-waiting : goal.loop-i-preserved-else-most-waiting
+loop-i-preserved-else-most-waiting c =
+    let if1 = c.if-node-lt-CAT_NODE in
+    let loop = c.loop-i in
+    (omega arith, omega arith, omega arith, count-more loop.invariant.3 (omega arith) if1.true c.leaf_of-leaves.result c.leaf_of-leaves.ensures.0 c.if-most-waiting.false)
+
+pub returns-then-waiting-lt2 : goal.returns-then-waiting-lt2
+returns-then-waiting-lt2 c =
+    let if1 = c.if-node-lt-CAT_NODE in
+    let loop = c.loop-i in
+    pair_few loop.invariant.3 (omega arith) if1.false c.if-node-lt-STAR_NODE.true _ c.if-waiting-lt2.true
+
+pub loop-i-preserved-then-node-lt-STAR_NODE : goal.loop-i-preserved-then-node-lt-STAR_NODE
+loop-i-preserved-then-node-lt-STAR_NODE c =
+    let if1 = c.if-node-lt-CAT_NODE in
+    let loop = c.loop-i in
+    (omega arith, omega arith, omega arith, count_fewer loop.invariant.3 (omega arith) if1.false c.if-node-lt-STAR_NODE.true c.if-waiting-lt2.false)
+
+pub returns-then-waiting-lt1 : goal.returns-then-waiting-lt1
+returns-then-waiting-lt1 c =
+    let if1 = c.if-node-lt-CAT_NODE in
+    let loop = c.loop-i in
+    star-few loop.invariant.3 (omega arith) if1.false c.if-node-lt-STAR_NODE.false _ c.if-waiting-lt1.true
+
+pub loop-i-preserved : goal.loop-i-preserved
+loop-i-preserved c =
+    let if1 = c.if-node-lt-CAT_NODE in
+    let loop = c.loop-i in
+    (omega arith, omega arith, omega arith, count_same loop.invariant.3 (omega arith) if1.false c.if-node-lt-STAR_NODE.false c.if-waiting-lt1.false)
+
+pub returns-then-waiting-ne1 : goal.returns-then-waiting-ne1
+returns-then-waiting-ne1 c =
+    let loop = c.loop-i in
+    count_left loop.invariant.3 (omega arith) _ c.if-waiting-ne1.true
+
+pub returns-then-most-gt-WAITING_LIMIT : goal.returns-then-most-gt-WAITING_LIMIT
+returns-then-most-gt-WAITING_LIMIT c =
+    let loop = c.loop-i in
+    count_many loop.invariant.3 (omega arith) _ c.if-waiting-ne1.false c.if-most-gt-WAITING_LIMIT.true
+
+pub returns-then-leaves-promised : goal.returns-then-leaves-promised
+returns-then-leaves-promised c =
+    let if6 = c.if-waiting-ne1 in
+    let loop = c.loop-i in
+    count-leaves loop.invariant.3 (omega arith) _ if6.false c.if-most-gt-WAITING_LIMIT.false c.if-leaves-promised.true
+
+pub returns : goal.returns
+returns c =
+    let if6 = c.if-waiting-ne1 in
+    let loop = c.loop-i in
+    count-right loop.invariant.3 (omega arith) _ if6.false c.if-most-gt-WAITING_LIMIT.false c.if-leaves-promised.false
