@@ -24,7 +24,7 @@ loop-i-preserved c =
     let l = loop in
     let w = link-word in
     let f = (shared-slice-known3.given (set_words * g.k + l.i)).fits in
-    (omega arith, omega arith, words_turn g.table.now l.table w.new.0 g.from.now g.k l.i (has g.to.now g.j) (omega arith) f l.invariant.2 w.ensures)
+    (omega arith, omega arith, words_turn g.table.now l.table w.new.table g.from.now g.k l.i (has g.to.now g.j) (omega arith) f l.invariant.2 w.ensures)
 
 pub returns : goal.returns
 returns c =

@@ -28,7 +28,7 @@ loop-m-preserved c =
     let l = loop in
     let r = lowest-bit in
     let n = join in
-    let h = link_turn l.table n.new.0 g.base l.m r.result (has g.to.now g.j) (lowest_at word_bits l.m r.result (omega arith) l.invariant.0 r.ensures.0) n.ensures in
+    let h = link_turn l.table n.new.to g.base l.m r.result (has g.to.now g.j) (lowest_at word_bits l.m r.result (omega arith) l.invariant.0 r.ensures.0) n.ensures in
     (omega (arith, and_le_r l.m (l.m - 1)), omega arith, λ p x. h p x ∙ l.invariant.2 p x)
 
 pub returns : goal.returns

@@ -28,7 +28,7 @@ loop-m-preserved c =
     let r = c.lowest_bit-i in
     let k = c.kept_bit-kept in
     let meets : ℕ → Bool = λ b. share g.table.now (g.base + b) g.other.now 0 in
-    let h = kept_turn l.auto k.result l.m r.result meets (lowest_at word_bits l.m r.result (omega arith) l.invariant.0 r.ensures.0) k.ensures in
+    let h = kept_turn l.kept k.result l.m r.result meets (lowest_at word_bits l.m r.result (omega arith) l.invariant.0 r.ensures.0) k.ensures in
     (omega (arith, and_le_r l.m (l.m - 1)), λ b. h b ∙ l.invariant.1 b)
 
 pub returns : goal.returns

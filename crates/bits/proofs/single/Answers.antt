@@ -8,4 +8,4 @@ returns c =
     let args = c.args in
     let g = args in
     let r = clear in
-    singled g.sets.now r.new.0 g.k g.q (omega arith) (omega arith) r.ensures
+    singled g.sets.now r.new.sets g.k g.q (omega arith) (omega arith) r.ensures

@@ -18,11 +18,11 @@ loop-i-preserved c =
     let g = args in
     let l = loop in
     let w = put_word in
-    store_turn g.row.now l.row w.new.0 g.from.now l.i l.invariant (omega arith) (omega arith) w.ensures
+    store_turn g.row.now l.row w.new.row g.from.now l.i l.invariant (omega arith) (omega arith) w.ensures
 
 pub returns : goal.returns
 returns c =
     let args = c.args in
     let g = args in
     let l = c.loop-i in
-    (store_end g.row.now l.row g.from.now l.i l.invariant (omega arith), λ i h. l.invariant.after i (omega arith))
+    record { by_index = store_end g.row.now l.row g.from.now l.i l.invariant (omega arith); by_index_2 = λ i h. l.invariant.after i (omega arith) }

@@ -23,7 +23,7 @@ returns-in-Mark c =
     let next = inside asked in
     let args = (start next).args in
     let kind = sym asked.kind_of-k.ensures ∙ c.enum_told.given.1 in
-    escaped_mark args.text.now args.at (start next).requires.1 next.if-next-text.true c.repeated.result kind c.repeated.ensures.0 c.repeated.ensures.1
+    escaped_mark args.text.now args.at (start next).requires.1 next.if-next-text.true c.repeated.result kind c.repeated.ensures.value c.repeated.ensures.literal_fits
 
 pub returns-in-Plain : goal.returns-in-Plain
 returns-in-Plain c =

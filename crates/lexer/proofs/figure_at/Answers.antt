@@ -27,22 +27,16 @@ returns-then-digit_at-2 c =
     let args = ten.args in
     let tens = ten.digit-a in
     let ones = c.digit in
-    let e = second c in (
-      figure_two args.text.now args.at tens.result ones.result (first ten) e tens.ensures.0 ones.ensures.0,
-      (omega (arith, tens.ensures.1, ones.ensures.1), omega arith, omega (arith, front-inside digit_at args.text.now (args.at + 1) refl e)),
-    )
+    let e = second c in record { result_value = figure_two args.text.now args.at tens.result ones.result (first ten) e tens.ensures.0 ones.ensures.0; figure_fits = (omega (arith, tens.ensures.1, ones.ensures.1), omega arith, omega (arith, front-inside digit_at args.text.now (args.at + 1) refl e)) }
 
 pub returns-then-digit_at : goal.returns-then-digit_at
 returns-then-digit_at c =
     let one = c in
     let args = one.args in
     let d = first one in
-    let last = sym c.digit_at-then-digit_at.ensures ∙ c.if-digit_at-2.false in (
-      figure_one args.text.now args.at one.digit-a.result d last one.digit-a.ensures.0,
-      (omega (arith, one.digit-a.ensures.1), omega arith, omega (arith, front-inside digit_at args.text.now args.at refl d)),
-    )
+    let last = sym c.digit_at-then-digit_at.ensures ∙ c.if-digit_at-2.false in record { result_value = figure_one args.text.now args.at one.digit-a.result d last one.digit-a.ensures.0; figure_fits = (omega (arith, one.digit-a.ensures.1), omega arith, omega (arith, front-inside digit_at args.text.now args.at refl d)) }
 
 pub returns : goal.returns
 returns c =
     let args = c.args in
-    (figure_none args.text.now args.at (sym c.digit_at.ensures ∙ c.if-digit_at.false), tt)
+    record { result_value = figure_none args.text.now args.at (sym c.digit_at.ensures ∙ c.if-digit_at.false); figure_fits = tt }

@@ -32,7 +32,7 @@ returns-in-Plain c =
     let asked = c in
     let s = start asked in
     let kind = sym asked.kind_of-k.ensures ∙ c.enum_told.given.1 in
-    literal_plain s.args.text.now s.args.at (inside s) c.repeated.result kind c.repeated.ensures.0 c.repeated.ensures.1
+    literal_plain s.args.text.now s.args.at (inside s) c.repeated.result kind c.repeated.ensures.value c.repeated.ensures.literal_fits
 
 pub escaped-requires : goal.escaped-requires
 escaped-requires c =

@@ -24,22 +24,22 @@ brace : (c : tie.After-q) → let args = (start c).args in starts (drop args.at 
 brace c = sym c.is.ensures ∙ c.if-is.true
 
 number : (c : tie.After-q) → let args = (start c).args in number_at (drop (args.at + 1) args.text.now) ≡ digits c.q.given.0.0 c.q.given.0.1.0
-number c = sym c.figure_at-q.ensures.0 ∙ ap number_of c.q.given.1
+number c = sym c.figure_at-q.ensures.result_value ∙ ap number_of c.q.given.1
 
 fits : (c : tie.After-q) → let args = (start c).args in FigureFits (length args.text.now) (args.at + 1) (Digits c.q.given.0.0 c.q.given.0.1.0)
-fits c = rw c.q.given.1 at c.figure_at-q.ensures.1
+fits c = rw c.q.given.1 at c.figure_at-q.ensures.figure_fits
 
 number-2 :
     (c : tie.After-o) →
     let args = (start (first c)).args in
     number_at (drop (args.at + ((first c).q.given.0.1.0 + 2)) args.text.now) ≡ digits c.o.given.0.0 c.o.given.0.1.0
-number-2 c = sym c.figure_at-o.ensures.0 ∙ ap number_of c.o.given.1
+number-2 c = sym c.figure_at-o.ensures.result_value ∙ ap number_of c.o.given.1
 
 fits-2 :
     (c : tie.After-o) →
     let args = (start (first c)).args in
     FigureFits (length args.text.now) (args.at + ((first c).q.given.0.1.0 + 2)) (Digits c.o.given.0.0 c.o.given.0.1.0)
-fits-2 c = rw c.o.given.1 at c.figure_at-o.ensures.1
+fits-2 c = rw c.o.given.1 at c.figure_at-o.ensures.figure_fits
 
 closed :
     (c : tie.Then2) →
@@ -67,8 +67,8 @@ pub returns-in_default : goal.returns-in_default
 returns-in_default c =
     let args = c.args in
     let braced = sym c.is.ensures ∙ c.if-is.true in
-    let absent = sym c.figure_at-q.ensures.0 ∙ ap number_of c.enum_told.given.1 in
-    (ap Fault c.refused_at.ensures ∙ repeat-first args.text.now args.b args.at braced absent, tt)
+    let absent = sym c.figure_at-q.ensures.result_value ∙ ap number_of c.enum_told.given.1 in
+    record { value = ap Fault c.refused_at.ensures ∙ repeat-first args.text.now args.b args.at braced absent; literal_fits = tt }
 
 pub overflow_add-i : goal.overflow_add-i
 overflow_add-i c = let f = fits c in omega (arith, f.1, f.2, (start c).requires)
@@ -83,8 +83,8 @@ pub returns-in_default-o : goal.returns-in_default-o
 returns-in_default-o c =
     let told = c in
     let args = (start told).args in
-    let absent = sym c.figure_at-o.ensures.0 ∙ ap number_of c.enum_told-in_default-o-1.given.1 in
-    (ap Fault c.refused_at-in_default-o.ensures ∙ repeat-second args.text.now args.b args.at (brace told) (number told) absent, tt)
+    let absent = sym c.figure_at-o.ensures.result_value ∙ ap number_of c.enum_told-in_default-o-1.given.1 in
+    record { value = ap Fault c.refused_at-in_default-o.ensures ∙ repeat-second args.text.now args.b args.at (brace told) (number told) absent; literal_fits = tt }
 
 pub overflow_add-i-then-is : goal.overflow_add-i-then-is
 overflow_add-i-then-is c = omega (arith, small c)
@@ -116,23 +116,13 @@ returns-then-closes c =
     let args = (start (first told)).args in
     let (x, (i, d)) = (first told).q.given.0 in
     let (y, (j, e)) = told.o.given.0 in
-    let (order, inside) = closes_inside args.text.now (args.at + (i + 1)) (args.at + (i + j + 2)) x y (closed c) in (
-      repeat-good args.text.now args.b args.at (brace (first told)) (number (first told)) (number-2 told) (closed c),
-      (order, (fits-2 told).0, omega arith, omega (arith, inside)),
-    )
+    let (order, inside) = closes_inside args.text.now (args.at + (i + 1)) (args.at + (i + j + 2)) x y (closed c) in record { value = repeat-good args.text.now args.b args.at (brace (first told)) (number (first told)) (number-2 told) (closed c); literal_fits = (order, (fits-2 told).0, omega arith, omega (arith, inside)) }
 
 pub returns-then-is : goal.returns-then-is
 returns-then-is c =
     let told = c in
-    let args = (start (first told)).args in (
-      ap Fault c.refused_at-then-is.ensures
-          ∙ repeat_bad args.text.now args.b args.at (brace (first told)) (number (first told)) (number-2 told) (unclosed c),
-      tt,
-    )
+    let args = (start (first told)).args in record { value = ap Fault c.refused_at-then-is.ensures
+          ∙ repeat_bad args.text.now args.b args.at (brace (first told)) (number (first told)) (number-2 told) (unclosed c); literal_fits = tt }
 
 pub returns : goal.returns
-returns c =
-    let args = c.args in (
-      repeat-absent args.text.now args.b args.at (sym c.is.ensures ∙ c.if-is.false),
-      (omega arith, omega arith, omega arith, omega (arith, c.requires.0)),
-    )
+returns c = let args = c.args in record { value = repeat-absent args.text.now args.b args.at (sym c.is.ensures ∙ c.if-is.false); literal_fits = (omega arith, omega arith, omega arith, omega (arith, c.requires.0)) }
