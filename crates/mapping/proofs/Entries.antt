@@ -3,7 +3,7 @@ use mathlib.Core.Path.{◌≡◌, refl, ap, ◌∙◌}
 use mathlib.Core.List.{List, ◌∷◌}
 use Prim.Native.Nat.{ℕ, zero, suc, ◌*◌, ◌-◌, ◌<◌, ◌≤◌}
 use native.Mathlib.Omega.{arith}
-use lib.ListN.{length, get_or, take, drop, set, replicate}
+use lib.ListN.{length, get_or, take, set, replicate}
 use lib.Seq.{get_or-take, length-take-le, take_at, take-set-lt, drop-set-lt}
 use Rattle.rules.specs.Limits.{wiped, filled}
 use Rattle.mapping.specs.Entries.{entry_size, stored, entries, beyond, Put}

@@ -1,8 +1,8 @@
 -- Why 26 has no input left once 24 and 25 have passed: with at most 255 nodes and one tree at the end, at most 128 subtrees wait at once.
 use mathlib.Core.Path.{◌≡◌, refl}
-use mathlib.Core.Bool.{false, ◌||◌}
+use mathlib.Core.Bool.{false}
 use mathlib.Core.List.{List, [], ◌∷◌}
-use Prim.Native.Nat.{ℕ, ◌+◌, ◌-◌, ◌≤◌}
+use Prim.Native.Nat.{ℕ, ◌+◌, ◌≤◌}
 use native.Mathlib.Omega.{arith}
 use lib.Dec.{ltb}
 use lib.ListN.{length}

@@ -1,10 +1,7 @@
-use mathlib.Core.Bool.{false}
 use mathlib.Core.Path.{refl}
-use Prim.Native.Nat.{◌-◌}
 use native.Mathlib.Omega.{arith}
-use Rattle.bits.specs.Sets.{set_words}
 use Rattle.bits.proofs.Bits.{bit_zero}
-use Rattle.bits.proofs.Stores.{Done, done_start, done_turn, done_end}
+use Rattle.bits.proofs.Stores.{done_start, done_turn, done_end}
 use Rattle.bits.proofs.clear.Goals as goal
 
 pub loop-i-init : goal.loop-i-init

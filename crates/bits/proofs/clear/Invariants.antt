@@ -1,10 +1,7 @@
 use mathlib.Core.Bool.{false}
-use mathlib.Core.Path.{refl}
 use Prim.Native.Nat.{◌-◌}
-use native.Mathlib.Omega.{arith}
 use Rattle.bits.specs.Sets.{set_words}
-use Rattle.bits.proofs.Bits.{bit_zero}
-use Rattle.bits.proofs.Stores.{Done, done_start, done_turn, done_end}
+use Rattle.bits.proofs.Stores.{Done}
 use Rattle.bits.proofs.clear.Given as goal
 
 abbrev pub invariant-loop-i : goal.invariant-loop-i

@@ -1,7 +1,5 @@
-use Prim.Native.Nat.{◌-◌}
 use native.Mathlib.Omega.{arith}
-use Rattle.bits.specs.Sets.{set_words, has}
-use Rattle.bits.proofs.Stores.{Done, done_start, done_turn, done_end, as_it_was, has_out}
+use Rattle.bits.proofs.Stores.{done_start, done_turn, done_end, as_it_was, has_out}
 use Rattle.bits.proofs.copy_within.Goals as goal
 
 pub loop-i-init : goal.loop-i-init

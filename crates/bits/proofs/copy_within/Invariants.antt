@@ -1,7 +1,6 @@
 use Prim.Native.Nat.{◌-◌}
-use native.Mathlib.Omega.{arith}
 use Rattle.bits.specs.Sets.{set_words, has}
-use Rattle.bits.proofs.Stores.{Done, done_start, done_turn, done_end, as_it_was, has_out}
+use Rattle.bits.proofs.Stores.{Done}
 use Rattle.bits.proofs.copy_within.Given as goal
 
 abbrev pub invariant-loop-i : goal.invariant-loop-i

@@ -1,8 +1,8 @@
-use mathlib.Core.Path.{◌≡◌, ◌∙◌}
-use Prim.Native.Nat.{◌+◌, ◌*◌, ◌-◌, ◌≤◌}
+use mathlib.Core.Path.{◌∙◌}
+use Prim.Native.Nat.{◌+◌, ◌*◌}
 use native.Mathlib.Omega.{arith}
 use lib.Count.{ones-le}
-use Rattle.bits.specs.Sets.{set_words, word_bits, has, count_below}
+use Rattle.bits.specs.Sets.{set_words, word_bits}
 use Rattle.bits.proofs.Ones.{count_start, count_turn, count_end}
 use Rattle.bits.proofs.count.Goals as goal
 

@@ -1,9 +1,6 @@
-use mathlib.Core.Path.{◌≡◌, ◌∙◌}
-use Prim.Native.Nat.{◌+◌, ◌*◌, ◌-◌, ◌≤◌}
-use native.Mathlib.Omega.{arith}
-use lib.Count.{ones-le}
+use mathlib.Core.Path.{◌≡◌}
+use Prim.Native.Nat.{◌*◌, ◌-◌, ◌≤◌}
 use Rattle.bits.specs.Sets.{set_words, word_bits, has, count_below}
-use Rattle.bits.proofs.Ones.{count_start, count_turn, count_end}
 use Rattle.bits.proofs.count.Given as goal
 
 abbrev pub invariant-loop-i : goal.invariant-loop-i

@@ -1,7 +1,5 @@
-use Prim.Native.Nat.{◌≤◌}
 use native.Mathlib.Omega.{arith}
-use Rattle.bits.specs.Sets.{word_bytes}
-use Rattle.bits.proofs.Bytes.{Got, got_start, got_turn, got_end}
+use Rattle.bits.proofs.Bytes.{got_start, got_turn, got_end}
 use Rattle.bits.proofs.get_word.Goals as goal
 
 pub loop-i-init : goal.loop-i-init

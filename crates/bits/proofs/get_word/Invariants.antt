@@ -1,7 +1,6 @@
 use Prim.Native.Nat.{◌≤◌}
-use native.Mathlib.Omega.{arith}
 use Rattle.bits.specs.Sets.{word_bytes}
-use Rattle.bits.proofs.Bytes.{Got, got_start, got_turn, got_end}
+use Rattle.bits.proofs.Bytes.{Got}
 use Rattle.bits.proofs.get_word.Given as goal
 
 abbrev pub invariant-loop-i : goal.invariant-loop-i

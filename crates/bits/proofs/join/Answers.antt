@@ -1,9 +1,7 @@
-use mathlib.Core.Bool.{◌||◌}
 use mathlib.Core.Path.{◌∙◌}
-use Prim.Native.Nat.{◌-◌}
 use native.Mathlib.Omega.{arith}
-use Rattle.bits.specs.Sets.{set_words, has}
-use Rattle.bits.proofs.Stores.{Done, done_start, done_turn, done_end, as_it_was, word_at, or_word, more_out, with_more}
+use Rattle.bits.specs.Sets.{has}
+use Rattle.bits.proofs.Stores.{done_start, done_turn, done_end, as_it_was, word_at, or_word, more_out, with_more}
 use Rattle.bits.proofs.join.Goals as goal
 
 pub loop-i-init : goal.loop-i-init

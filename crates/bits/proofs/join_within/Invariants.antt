@@ -1,9 +1,7 @@
 use mathlib.Core.Bool.{◌||◌}
-use mathlib.Core.Path.{◌∙◌}
 use Prim.Native.Nat.{◌-◌}
-use native.Mathlib.Omega.{arith}
 use Rattle.bits.specs.Sets.{set_words, has}
-use Rattle.bits.proofs.Stores.{Done, done_start, done_turn, done_end, as_it_was, or_word, more_out, with_more}
+use Rattle.bits.proofs.Stores.{Done}
 use Rattle.bits.proofs.join_within.Given as goal
 
 abbrev pub invariant-loop-i : goal.invariant-loop-i

@@ -1,11 +1,11 @@
 use mathlib.Core.Path.{refl}
-use Prim.Native.Nat.{ℕ, ◌+◌, ◌*◌, ◌/◌, ◌-◌, ◌≤◌}
+use Prim.Native.Nat.{ℕ, ◌+◌, ◌*◌, ◌/◌}
 use native.Mathlib.Nat.{mod-lt}
 use native.Mathlib.Omega.{arith}
 use lib.Pow.{pow_pos}
 use Rattle.bits.specs.Sets.{set_words, word_bits}
 use Rattle.bits.proofs.Bits.{lowest_at}
-use Rattle.bits.proofs.Least.{Clear, clear_start, mask_first, mask_later, least-next, least-found, least-none}
+use Rattle.bits.proofs.Least.{clear_start, mask_first, mask_later, least-next, least-found, least-none}
 use Rattle.bits.proofs.least_from.Goals as goal
 
 pub returns-then-i-ge-SET_WORDS : goal.returns-then-i-ge-SET_WORDS

@@ -1,11 +1,6 @@
-use mathlib.Core.Path.{refl}
-use Prim.Native.Nat.{ℕ, ◌+◌, ◌*◌, ◌/◌, ◌-◌, ◌≤◌}
-use native.Mathlib.Nat.{mod-lt}
-use native.Mathlib.Omega.{arith}
-use lib.Pow.{pow_pos}
+use Prim.Native.Nat.{◌*◌, ◌-◌, ◌≤◌}
 use Rattle.bits.specs.Sets.{set_words, word_bits}
-use Rattle.bits.proofs.Bits.{lowest_at}
-use Rattle.bits.proofs.Least.{Clear, clear_start, mask_first, mask_later, least-next, least-found, least-none}
+use Rattle.bits.proofs.Least.{Clear}
 use Rattle.bits.proofs.least_from.Given as goal
 
 abbrev pub invariant-loop-i : goal.invariant-loop-i

@@ -1,10 +1,7 @@
-use mathlib.Core.Path.{◌≡◌, refl}
-use mathlib.Core.Bool.{◌||◌, ◌&&◌}
-use Prim.Native.Nat.{ℕ, ◌+◌, ◌*◌, ◌-◌, ◌≤◌}
+use mathlib.Core.Path.{refl}
+use Prim.Native.Nat.{◌+◌, ◌*◌}
 use native.Mathlib.Omega.{arith}
-use lib.ListN.{length}
-use lib.Dec.{ltb}
-use Rattle.bits.specs.Sets.{set_words, word_bits, has}
+use Rattle.bits.specs.Sets.{set_words, has}
 use Rattle.bits.proofs.Members.{words_start, words_turn, words_end}
 use Rattle.bits.proofs.link.Goals as goal
 

@@ -1,11 +1,9 @@
-use mathlib.Core.Path.{◌≡◌, refl}
+use mathlib.Core.Path.{◌≡◌}
 use mathlib.Core.Bool.{◌||◌, ◌&&◌}
-use Prim.Native.Nat.{ℕ, ◌+◌, ◌*◌, ◌-◌, ◌≤◌}
-use native.Mathlib.Omega.{arith}
+use Prim.Native.Nat.{ℕ, ◌*◌, ◌-◌, ◌≤◌}
 use lib.ListN.{length}
 use lib.Dec.{ltb}
 use Rattle.bits.specs.Sets.{set_words, word_bits, has}
-use Rattle.bits.proofs.Members.{words_start, words_turn, words_end}
 use Rattle.bits.proofs.link.Given as goal
 
 abbrev pub invariant-loop-i : goal.invariant-loop-i

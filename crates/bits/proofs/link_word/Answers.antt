@@ -1,11 +1,8 @@
 use mathlib.Core.Path.{◌≡◌, refl, sym, ◌∙◌}
-use mathlib.Core.Bool.{◌||◌, ◌&&◌}
-use Prim.Native.Nat.{ℕ, ◌^◌, ◌-◌, ◌<◌}
+use Prim.Native.Nat.{◌-◌}
 use native.Mathlib.Omega.{arith}
 use lib.Bits.{and_le_r}
-use lib.ListN.{length}
 use Rattle.bits.specs.Sets.{word_bits, has}
-use Rattle.bits.specs.Words.{in_word}
 use Rattle.bits.proofs.Bits.{lowest_at}
 use Rattle.bits.proofs.Members.{link_turn, link_end}
 use Rattle.bits.proofs.link_word.Goals as goal

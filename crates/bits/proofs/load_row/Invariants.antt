@@ -1,9 +1,6 @@
-use mathlib.Core.Path.{refl}
 use Prim.Native.Nat.{◌-◌}
-use native.Mathlib.Omega.{arith}
 use Rattle.bits.specs.Sets.{set_words, row_has}
-use Rattle.bits.proofs.Stores.{Done, done_start, done-front, done_end}
-use Rattle.bits.proofs.Bytes.{row_word, row_out}
+use Rattle.bits.proofs.Stores.{Done}
 use Rattle.bits.proofs.load_row.Given as goal
 
 abbrev pub invariant-loop-i : goal.invariant-loop-i

@@ -1,9 +1,9 @@
 use mathlib.Core.Path.{◌≡◌}
-use Prim.Native.Nat.{ℕ, ◌+◌, ◌*◌, ◌^◌, ◌-◌, ◌<◌, ◌≤◌}
+use Prim.Native.Nat.{◌+◌, ◌*◌}
 use native.Mathlib.Omega.{arith}
 use lib.Bits.{or_lt, and_lt}
-use Rattle.bits.specs.Sets.{set_words, word_bits, bit, some_below}
-use Rattle.bits.proofs.Shares.{in_both, both_start, both_turn, both_end}
+use Rattle.bits.specs.Sets.{set_words, word_bits}
+use Rattle.bits.proofs.Shares.{both_start, both_turn, both_end}
 use Rattle.bits.proofs.meets.Goals as goal
 
 pub loop-i-init : goal.loop-i-init

@@ -1,9 +1,7 @@
 use mathlib.Core.Path.{◌≡◌}
-use Prim.Native.Nat.{ℕ, ◌+◌, ◌*◌, ◌^◌, ◌-◌, ◌<◌, ◌≤◌}
-use native.Mathlib.Omega.{arith}
-use lib.Bits.{or_lt, and_lt}
+use Prim.Native.Nat.{ℕ, ◌^◌, ◌-◌, ◌<◌, ◌≤◌}
 use Rattle.bits.specs.Sets.{set_words, word_bits, bit, some_below}
-use Rattle.bits.proofs.Shares.{in_both, both_start, both_turn, both_end}
+use Rattle.bits.proofs.Shares.{in_both}
 use Rattle.bits.proofs.meets.Given as goal
 
 abbrev pub invariant-loop-i : goal.invariant-loop-i

@@ -1,7 +1,5 @@
-use Prim.Native.Nat.{◌-◌}
 use native.Mathlib.Omega.{arith}
-use Rattle.bits.specs.Sets.{word_bytes}
-use Rattle.bits.proofs.Bytes.{Putting, put_start, put_turn, put_end}
+use Rattle.bits.proofs.Bytes.{put_start, put_turn, put_end}
 use Rattle.bits.proofs.put_word.Goals as goal
 
 pub loop-i-init : goal.loop-i-init

@@ -1,7 +1,6 @@
 use Prim.Native.Nat.{◌-◌}
-use native.Mathlib.Omega.{arith}
 use Rattle.bits.specs.Sets.{word_bytes}
-use Rattle.bits.proofs.Bytes.{Putting, put_start, put_turn, put_end}
+use Rattle.bits.proofs.Bytes.{Putting}
 use Rattle.bits.proofs.put_word.Given as goal
 
 abbrev pub invariant-loop-i : goal.invariant-loop-i

@@ -1,9 +1,7 @@
 use mathlib.Core.Path.{refl}
-use mathlib.Core.Bool.{◌&&◌}
-use Prim.Native.Nat.{◌-◌}
 use native.Mathlib.Omega.{arith}
-use Rattle.bits.specs.Sets.{set_words, has, share}
-use Rattle.bits.proofs.Stores.{Done, done_start, done-front, done_end, tested_word, has_out}
+use Rattle.bits.specs.Sets.{share}
+use Rattle.bits.proofs.Stores.{done_start, done-front, done_end, tested_word, has_out}
 use Rattle.bits.proofs.sift.Goals as goal
 
 pub loop-i-init : goal.loop-i-init

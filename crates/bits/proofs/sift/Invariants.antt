@@ -1,9 +1,7 @@
-use mathlib.Core.Path.{refl}
 use mathlib.Core.Bool.{◌&&◌}
 use Prim.Native.Nat.{◌-◌}
-use native.Mathlib.Omega.{arith}
 use Rattle.bits.specs.Sets.{set_words, has, share}
-use Rattle.bits.proofs.Stores.{Done, done_start, done-front, done_end, tested_word, has_out}
+use Rattle.bits.proofs.Stores.{Done}
 use Rattle.bits.proofs.sift.Given as goal
 
 abbrev pub invariant-loop-i : goal.invariant-loop-i

@@ -1,6 +1,6 @@
 use mathlib.Core.Path.{◌≡◌, sym, ◌∙◌}
-use mathlib.Core.Bool.{Bool, ◌||◌, ◌&&◌}
-use Prim.Native.Nat.{ℕ, ◌+◌, ◌^◌, ◌-◌, ◌<◌}
+use mathlib.Core.Bool.{Bool, ◌&&◌}
+use Prim.Native.Nat.{ℕ, ◌+◌, ◌-◌}
 use native.Mathlib.Omega.{arith}
 use lib.Bits.{and_le_r}
 use Rattle.bits.specs.Sets.{word_bits, bit, share}

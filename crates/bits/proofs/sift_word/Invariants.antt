@@ -1,11 +1,7 @@
-use mathlib.Core.Path.{◌≡◌, sym, ◌∙◌}
-use mathlib.Core.Bool.{Bool, ◌||◌, ◌&&◌}
-use Prim.Native.Nat.{ℕ, ◌+◌, ◌^◌, ◌-◌, ◌<◌}
-use native.Mathlib.Omega.{arith}
-use lib.Bits.{and_le_r}
+use mathlib.Core.Path.{◌≡◌}
+use mathlib.Core.Bool.{◌||◌, ◌&&◌}
+use Prim.Native.Nat.{ℕ, ◌+◌, ◌^◌, ◌<◌}
 use Rattle.bits.specs.Sets.{word_bits, bit, share}
-use Rattle.bits.proofs.Bits.{lowest_at}
-use Rattle.bits.proofs.Members.{kept_start, kept_turn, kept_end}
 use Rattle.bits.proofs.sift_word.Given as goal
 
 abbrev pub invariant-loop-m : goal.invariant-loop-m

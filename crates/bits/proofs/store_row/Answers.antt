@@ -1,7 +1,5 @@
-use Prim.Native.Nat.{◌-◌}
 use native.Mathlib.Omega.{arith}
-use Rattle.bits.specs.Sets.{set_words}
-use Rattle.bits.proofs.Bytes.{Storing, store_start, store_turn, store_end}
+use Rattle.bits.proofs.Bytes.{store_start, store_turn, store_end}
 use Rattle.bits.proofs.store_row.Goals as goal
 
 pub loop-i-init : goal.loop-i-init

@@ -1,7 +1,6 @@
 use Prim.Native.Nat.{◌-◌}
-use native.Mathlib.Omega.{arith}
 use Rattle.bits.specs.Sets.{set_words}
-use Rattle.bits.proofs.Bytes.{Storing, store_start, store_turn, store_end}
+use Rattle.bits.proofs.Bytes.{Storing}
 use Rattle.bits.proofs.store_row.Given as goal
 
 abbrev pub invariant-loop-i : goal.invariant-loop-i

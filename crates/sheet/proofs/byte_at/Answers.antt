@@ -2,8 +2,6 @@ use mathlib.Core.Path.{sym}
 use Rattle.sheet.proofs.Accepted.{position_inside, takes_are, byte_inside}
 use Rattle.sheet.proofs.byte_at.Goals as goal
 
-
-
 -- An accepted sheet has form 1, and a leaf of form 1 takes its literal.
 pub literal-requires : goal.literal-requires
 literal-requires c =

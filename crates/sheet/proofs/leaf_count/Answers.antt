@@ -2,8 +2,6 @@ use native.Mathlib.Omega.{arith}
 use Rattle.sheet.proofs.Accepted.{is_form1, is_no_form}
 use Rattle.sheet.proofs.leaf_count.Goals as goal
 
-
-
 pub returns-then-form_byte-ne-FORM : goal.returns-then-form_byte-ne-FORM
 returns-then-form_byte-ne-FORM c =
     let sheet = c.args.sheet.now in

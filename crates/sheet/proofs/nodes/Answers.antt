@@ -2,8 +2,6 @@ use mathlib.Core.Path.{refl}
 use Rattle.sheet.proofs.Accepted.{is_form1, is_no_form}
 use Rattle.sheet.proofs.nodes.Goals as goal
 
-
-
 pub returns-then-form_byte-ne-FORM : goal.returns-then-form_byte-ne-FORM
 returns-then-form_byte-ne-FORM c =
     let named = c in

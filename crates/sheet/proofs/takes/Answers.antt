@@ -1,8 +1,6 @@
 use Rattle.sheet.proofs.Accepted.{position_inside, takes_are}
 use Rattle.sheet.proofs.takes.Goals as goal
 
-
-
 -- An accepted sheet has form 1, and a leaf of form 1 takes its literal.
 pub literal-requires : goal.literal-requires
 literal-requires c =

@@ -2,8 +2,6 @@ use mathlib.Core.Path.{◌∙◌}
 use Rattle.sheet.proofs.Accepted.{is_form1, is_no_form, unknown-refused, known_form}
 use Rattle.sheet.proofs.test_form.Goals as goal
 
-
-
 pub returns-then-form_byte-ne-FORM : goal.returns-then-form_byte-ne-FORM
 returns-then-form_byte-ne-FORM c =
     let sheet = c.args.sheet.now in

@@ -1,13 +1,7 @@
 use mathlib.Core.Path.{refl}
-use Prim.Native.Nat.{◌≤◌, ◌-◌}
 use native.Mathlib.Omega.{arith}
-use lib.Dec.{ltb}
-use lib.ListN.{length}
-use Rattle.sheet.specs.Nodes.{highest_node}
-use Rattle.sheet.proofs.Tests.{Searched, any_turn, any_end}
+use Rattle.sheet.proofs.Tests.{any_turn, any_end}
 use Rattle.sheet.proofs.form1.any_above.Goals as goal
-
-
 
 pub loop-i-init : goal.loop-i-init
 loop-i-init c = (omega arith, record { whole = refl })

@@ -1,10 +1,8 @@
-use mathlib.Core.Path.{refl}
 use Prim.Native.Nat.{◌≤◌, ◌-◌}
-use native.Mathlib.Omega.{arith}
 use lib.Dec.{ltb}
 use lib.ListN.{length}
 use Rattle.sheet.specs.Nodes.{highest_node}
-use Rattle.sheet.proofs.Tests.{Searched, any_turn, any_end}
+use Rattle.sheet.proofs.Tests.{Searched}
 use Rattle.sheet.proofs.form1.any_above.Given as goal
 
 -- What is found so far, or still to be found, is found in the whole.

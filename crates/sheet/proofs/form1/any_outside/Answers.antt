@@ -1,12 +1,7 @@
 use mathlib.Core.Path.{refl}
-use Prim.Native.Nat.{◌≤◌, ◌-◌}
 use native.Mathlib.Omega.{arith}
-use lib.ListN.{length}
-use Rattle.rules.specs.Limits.{outside}
-use Rattle.sheet.proofs.Tests.{Searched, any_turn, any_end}
+use Rattle.sheet.proofs.Tests.{any_turn, any_end}
 use Rattle.sheet.proofs.form1.any_outside.Goals as goal
-
-
 
 pub loop-i-init : goal.loop-i-init
 loop-i-init c = (omega arith, record { whole = refl })

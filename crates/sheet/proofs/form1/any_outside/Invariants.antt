@@ -1,9 +1,7 @@
-use mathlib.Core.Path.{refl}
 use Prim.Native.Nat.{◌≤◌, ◌-◌}
-use native.Mathlib.Omega.{arith}
 use lib.ListN.{length}
 use Rattle.rules.specs.Limits.{outside}
-use Rattle.sheet.proofs.Tests.{Searched, any_turn, any_end}
+use Rattle.sheet.proofs.Tests.{Searched}
 use Rattle.sheet.proofs.form1.any_outside.Given as goal
 
 -- What is found so far, or still to be found, is found in the whole.

@@ -2,8 +2,6 @@ use native.Mathlib.Omega.{arith}
 use Rattle.sheet.proofs.Literals.{all_literals, both_counts}
 use Rattle.sheet.proofs.form1.byte_wrong.Goals as goal
 
-
-
 pub slice_bounds-any_outside-end : goal.slice_bounds-any_outside-end
 slice_bounds-any_outside-end c =
     let start = c in

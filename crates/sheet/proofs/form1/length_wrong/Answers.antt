@@ -1,8 +1,6 @@
 use Rattle.sheet.proofs.Literals.{is_short, is_cut, is_other_length}
 use Rattle.sheet.proofs.form1.length_wrong.Goals as goal
 
-
-
 -- The three reasons for 21, one after the other.
 pub returns-then-size-lt-LITERALS : goal.returns-then-size-lt-LITERALS
 returns-then-size-lt-LITERALS c = is_short c.args.sheet.now c.if-size-lt-LITERALS.true

@@ -1,8 +1,6 @@
 use Rattle.sheet.proofs.Literals.{no-nodes, all_nodes}
 use Rattle.sheet.proofs.form1.node_part.Goals as goal
 
-
-
 pub returns-then-sheet-start : goal.returns-then-sheet-start
 returns-then-sheet-start c =
     let count = c.literal_count-start in

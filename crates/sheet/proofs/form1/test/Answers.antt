@@ -2,8 +2,6 @@ use mathlib.Core.Path.{sym, ◌∙◌}
 use Rattle.sheet.proofs.Literals.{is_21, is_22, is_23, is_right}
 use Rattle.sheet.proofs.form1.test.Goals as goal
 
-
-
 pub returns-then-length_wrong : goal.returns-then-length_wrong
 returns-then-length_wrong c = is_21 c.args.sheet.now (sym c.length_wrong.ensures ∙ c.if-length_wrong.true)
 

@@ -1,12 +1,8 @@
-use Prim.Native.Nat.{◌-◌}
 use mathlib.Core.Bool.{true≢false}
 use mathlib.Core.Path.{sym}
 use native.Mathlib.Omega.{arith}
-use lib.ListN.{length}
-use Rattle.sheet.proofs.Weighed.{Passing, passing-none, passing_on, passing-right}
+use Rattle.sheet.proofs.Weighed.{passing-none, passing_on, passing-right}
 use Rattle.sheet.proofs.waiting.counts_right.Goals as goal
-
-
 
 pub loop-i-init : goal.loop-i-init
 loop-i-init c = passing-none _

@@ -1,9 +1,6 @@
 use Prim.Native.Nat.{◌-◌}
-use mathlib.Core.Bool.{true≢false}
-use mathlib.Core.Path.{sym}
-use native.Mathlib.Omega.{arith}
 use lib.ListN.{length}
-use Rattle.sheet.proofs.Weighed.{Passing, passing-none, passing_on, passing-right}
+use Rattle.sheet.proofs.Weighed.{Passing}
 use Rattle.sheet.proofs.waiting.counts_right.Given as goal
 
 -- As long as some subtree waits after every node, the sum counts what waits and the leaves; so one comparison at the end tells all.

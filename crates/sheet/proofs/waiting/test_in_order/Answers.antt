@@ -1,10 +1,6 @@
-use Prim.Native.Nat.{◌≤◌, ◌-◌}
 use native.Mathlib.Omega.{arith}
-use lib.ListN.{length}
-use Rattle.sheet.proofs.Tests.{Counted, count_start, count_most, count-more, count_fewer, count_same, pair_few, star-few, count_left, count_many, count-leaves, count-right}
+use Rattle.sheet.proofs.Tests.{count_start, count_most, count-more, count_fewer, count_same, pair_few, star-few, count_left, count_many, count-leaves, count-right}
 use Rattle.sheet.proofs.waiting.test_in_order.Goals as goal
-
-
 
 pub loop-i-init : goal.loop-i-init
 loop-i-init c = (omega arith, omega arith, omega arith, count_start _)

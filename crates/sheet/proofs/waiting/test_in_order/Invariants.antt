@@ -1,7 +1,6 @@
 use Prim.Native.Nat.{◌≤◌, ◌-◌}
-use native.Mathlib.Omega.{arith}
 use lib.ListN.{length}
-use Rattle.sheet.proofs.Tests.{Counted, count_start, count_most, count-more, count_fewer, count_same, pair_few, star-few, count_left, count_many, count-leaves, count-right}
+use Rattle.sheet.proofs.Tests.{Counted}
 use Rattle.sheet.proofs.waiting.test_in_order.Given as goal
 
 -- The nodes left decide, from the counts so far, as all nodes do from none: one law for each way through a turn.
