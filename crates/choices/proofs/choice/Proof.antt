@@ -42,7 +42,7 @@ returns : tie.Need-returns
 returns c =
     let loaded = c.before.before.before.before.before.before in
     let g = loaded.before.before.before.before.before.before.args in
-    let a = loaded.Load-row in
+    let a = loaded.load-row in
     let b = c.before.before.before.intersect in
     let least = c.least-from.ensures in (
       least-same (λ x. b.ensures 0 x ∙ rw (a.ensures x, rest_of g.work.now (row_size * g.i.0)) refl) least,

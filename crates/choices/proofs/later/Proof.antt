@@ -38,7 +38,7 @@ least-from-requires c κs = search rules
 returns : tie.Need-returns
 returns c =
     let g = c.before.before.before.before.before.before.before.before.before.args in
-    let a = c.before.before.before.before.Load-row in
+    let a = c.before.before.before.before.load-row in
     let least = c.least-from.ensures in (
       least-same (λ x. a.ensures x ∙ rw (rest_of g.work.now (row_size * g.i.0)) refl) least,
       least_below a.new.1.0 0 least,
