@@ -6,11 +6,11 @@ ghost use Rattle.rules.specs.Limits.{name_limit, filled};
 ghost use Rattle.mapping.specs.Entries.{entry_size, entry_values, stored, entries, Put};
 
 // A place of the name, from 0.
-#[derive(Drop)]
+#[derive(Clone, Copy)]
 pub struct Place(pub usize);
 
 // A position of the expression, from 1; 0 is the start.
-#[derive(Drop)]
+#[derive(Clone, Copy)]
 pub struct Position(pub usize);
 
 const ENTRY_SIZE: usize = 1;
