@@ -1,47 +1,19 @@
-use mathlib.Core.Path.{◌∙◌, sym}
-use native.Mathlib.Omega.{arith}
-use Rattle.lexer.proofs.Front.{byte_inside}
+use Rattle.std.proofs.Common.{sym, arith}
 use Rattle.lexer.proofs.Units.{escaped_end, escaped_mark, escaped_plain, escaped_refused}
-use Rattle.lexer.specs.Bytes.{backslash}
 use Rattle.lexer.proofs.escaped.Goals as goal
 
 -- the kind of the byte after the backslash decides; with no byte there it is 11 too
-abbrev inside : tie.After-kind-of → tie.Then1
-inside c = c
-
-abbrev start : tie.Then1 → tie.Start
-start c = c
-
-pub overflow_add-next : goal.overflow_add-next
-overflow_add-next c =
-    let args = c.args in
-    omega (arith, c.requires.0, byte_inside args.text.now args.at backslash c.requires.1)
-
 pub returns-in-Mark : goal.returns-in-Mark
 returns-in-Mark c =
-    let asked = c in
-    let next = inside asked in
-    let args = (start next).args in
-    let kind = sym asked.kind_of-k.ensures ∙ c.enum_told.given.1 in
-    escaped_mark args.text.now args.at (start next).requires.1 next.if-next-text.true c.repeated.result kind c.repeated.ensures.value c.repeated.ensures.literal_fits
+    escaped_mark c.args.text.now c.args.at c.requires.1 c.if-next-text.true c.repeated.result (sym c.in-Mark.ensures)
+    c.repeated.ensures.value c.repeated.ensures.literal_fits
 
 pub returns-in-Plain : goal.returns-in-Plain
-returns-in-Plain c =
-    let asked = c in
-    let next = inside asked in
-    let args = (start next).args in
-    let kind = sym asked.kind_of-k.ensures ∙ c.enum_told-in-Plain-1.given.1 in
-    rw c.refused_at.ensures (escaped_plain args.text.now args.at (start next).requires.1 next.if-next-text.true kind)
+returns-in-Plain c = rw c.refused_at.ensures (escaped_plain c.args.text.now c.args.at c.requires.1 c.if-next-text.true (sym c.in-Plain.ensures))
 
 pub returns-in-Refused : goal.returns-in-Refused
 returns-in-Refused c =
-    let asked = c in
-    let next = inside asked in
-    let args = (start next).args in
-    let kind = sym asked.kind_of-k.ensures ∙ c.enum_told-in-Refused-1.given.1 in
-    rw c.refused_at-in-Refused.ensures (escaped_refused args.text.now args.at (start next).requires.1 next.if-next-text.true kind)
+    rw c.refused_at-in-Refused.ensures (escaped_refused c.args.text.now c.args.at c.requires.1 c.if-next-text.true (sym c.in-Refused.ensures))
 
 pub returns : goal.returns
-returns c =
-    let s = c in
-    rw c.refused_at-2.ensures (escaped_end s.args.text.now s.args.at s.requires.1 (omega (arith, c.if-next-text.false)))
+returns c = rw c.refused_at-2.ensures (escaped_end c.args.text.now c.args.at c.requires.1 (omega arith))

@@ -1,12 +1,8 @@
-use Prim.Native.Nat.{ℕ, ◌≤◌, ◌-◌}
+use Prim.Native.Nat.{◌≤◌, ◌-◌}
 use lib.ListN.{length}
-use mathlib.Core.List.{List}
-use mathlib.Core.Path.{refl, sym, ◌≡◌}
-use native.Mathlib.Omega.{arith}
+use mathlib.Core.Path.{◌≡◌}
 use Rattle.lexer.specs.Faults.{lexical}
-use Rattle.lexer.specs.Places.{Stepped}
 use Rattle.lexer.specs.Tokens.{tokens_from}
-use Rattle.lexer.proofs.Walks.{walk_on, walk_end, walk_stopped}
 use Rattle.lexer.proofs.first_fault.Given as goal
 
 -- the tokens from here on show the fault that all of them show

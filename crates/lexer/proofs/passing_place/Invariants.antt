@@ -1,11 +1,7 @@
-use Prim.Native.Nat.{ℕ, ◌≤◌, ◌-◌}
+use Prim.Native.Nat.{◌≤◌, ◌-◌}
 use lib.ListN.{length}
-use mathlib.Core.List.{List}
-use mathlib.Core.Path.{refl, ◌≡◌}
-use native.Mathlib.Omega.{arith}
+use mathlib.Core.Path.{◌≡◌}
 use Rattle.lexer.specs.Tokens.{tokens_from}
-use Rattle.lexer.proofs.Walks.{passes_none, passing_over, passes_here, passes_later, passes_end}
-use Rattle.lexer.specs.Places.{Stepped}
 use Rattle.rules.specs.Limits.{leaf_limit}
 use Rattle.lexer.specs.Faults.{passing}
 use Rattle.lexer.proofs.passing_place.Given as goal
