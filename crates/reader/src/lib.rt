@@ -50,7 +50,7 @@ enum Test {
 }
 
 // What a search for a reading comes to: it is in the mapping; there is none; what was given is no reading.
-#[derive(Drop)]
+#[derive(Clone, Copy)]
 enum Step {
     Found,
     Absent,
