@@ -1,69 +1,129 @@
-// What the programs share: writing to standard output, and looking through bytes. Contracts say only what keeps the programs safe.
+// What the programs share: reading standard input, writing to standard output, and looking through bytes.
 //
 // What is put goes onto a page of the caller's, at a place that the caller holds too. A full page is written and begun again, and a program ends
-// with `close`, so that output goes out in pieces as long as the page. After a write that failed nothing more is written.
+// with `close`, so that output goes out in pieces as long as the page. After a write that failed nothing more is written: the place is lost, and
+// whatever is put there fails as well.
 #![tactic(auto)]
 
 ghost use Rattle.std.specs.Prelude.{◌≤◌, length};
+ghost use Rattle.std.specs.Io.{ReadsAtMost};
 
-use libc::{STDERR_FILENO, STDOUT_FILENO};
 use mapping::Place;
+use std::io;
+use std::io::{Read, Write};
+use std::process::ExitCode;
 
 // The place after a write that failed: beyond any page.
-const LOST: usize = 1 << 60;
+const LOST: usize = usize::MAX;
 
-// Tells on standard error what went wrong. A program has no exit status, so whoever runs it looks there.
-pub fn complain(what: &[u8]) {
-    io::write_all(STDERR_FILENO, what);
+// What a program could not do.
+#[derive(Clone, Copy)]
+pub enum Failure {
+    Input,
+    Output,
 }
 
-// Writes the page up to a place; gives the place to go on from.
-fn write_page(page: &[u8], at: usize) -> usize {
-    if page.len() < at {
-        return at;
+// The status that a program ends with. What it could not do it says on standard error first.
+pub fn status<E: Write>(errors: &mut E, done: Result<(), Failure>) -> ExitCode {
+    match done {
+        Ok(()) => return ExitCode::SUCCESS,
+        Err(Failure::Input) => complain(errors, b"failed: standard input cannot be read\n"),
+        Err(Failure::Output) => complain(errors, b"failed: standard output cannot be written\n"),
     }
-    if io::write_all(STDOUT_FILENO, front(page, at)) {
-        return 0;
+    ExitCode::FAILURE
+}
+
+// Tells on standard error what went wrong. If that fails too, there is nowhere left to say so.
+pub fn complain<E: Write>(errors: &mut E, what: &[u8]) {
+    let _ = errors.write_all(what);
+}
+
+// Reads until the buffer is full or the input is over; gives how many bytes it put at the buffer's start.
+pub fn read_full<R: Read>(input: &mut R, buffer: &mut [u8]) -> io::Result<usize>
+    ensures { ReadsAtMost result buffer.new }
+{
+    let mut done = 0;
+    while done < buffer.len() {
+        let n = input.read(&mut buffer[done..])?;
+        if n == 0 {
+            break;
+        }
+        done += n;
     }
-    complain(b"failed: standard output cannot be written\n");
-    LOST
+    Ok(done)
+}
+
+// Writes the page up to the place, which then is the page's start again.
+fn write_page<W: Write>(out: &mut W, page: &[u8], at: &mut usize) -> io::Result<()> {
+    let end = *at;
+    *at = LOST;
+    if page.len() < end {
+        return Err(io::Error::other("a write before this one failed"));
+    }
+    out.write_all(&page[..end])?;
+    *at = 0;
+    Ok(())
 }
 
 // The place for the next byte, after a full page is written.
-fn place_for(page: &[u8], at: usize) -> usize {
-    if at == page.len() {
-        return write_page(page, at);
+fn place_for<W: Write>(out: &mut W, page: &[u8], at: &mut usize) -> io::Result<usize> {
+    if page.len() <= *at {
+        write_page(out, page, at)?;
     }
-    at
+    Ok(*at)
 }
 
-// One byte; gives the place after it.
-fn put_byte(page: &mut [u8], at: usize, byte: u8) -> usize {
-    let place = place_for(page, at);
+// One byte; the place goes on to the one after it.
+fn put_byte<W: Write>(out: &mut W, page: &mut [u8], at: &mut usize, byte: u8) -> io::Result<()> {
+    let place = place_for(out, page, at)?;
     if place < page.len() {
         page[place] = byte;
-        return place + 1;
+        *at = place + 1;
     }
-    place
+    Ok(())
 }
 
 // Writes what is left of the page: a program's last word.
-pub fn close(page: &[u8], at: usize) {
-    write_page(page, at);
+pub fn close<W: Write>(out: &mut W, page: &[u8], at: usize) -> io::Result<()> {
+    let mut place = at;
+    write_page(out, page, &mut place)?;
+    out.flush()
 }
 
-pub fn put(page: &mut [u8], at: &mut usize, bytes: &[u8]) {
-    let mut i = 0;
-    while i < bytes.len() {
-        *at = put_byte(page, *at, bytes[i]);
-        i += 1;
+pub fn put<W: Write>(out: &mut W, page: &mut [u8], at: &mut usize, bytes: &[u8]) -> io::Result<()> {
+    for byte in bytes {
+        put_byte(out, page, at, *byte)?;
+    }
+    Ok(())
+}
+
+// A page with its place, as a writer: what is printed to it is put.
+#[derive(Drop)]
+struct Printer<'a, W> {
+    out: &'a mut W,
+    page: &'a mut [u8],
+    at: &'a mut usize,
+}
+
+impl<W: Write> Write for Printer<'_, W> {
+    fn write(&mut self, bytes: &[u8]) -> io::Result<usize> {
+        put(self.out, self.page, self.at, bytes)?;
+        Ok(bytes.len())
+    }
+
+    fn flush(&mut self) -> io::Result<()> {
+        Ok(())
     }
 }
 
-pub fn put_number(page: &mut [u8], at: &mut usize, n: u64) {
-    let mut digits = [0u8; 20];
-    let k = io::decimal(n, &mut digits);
-    put(page, at, &digits[..k]);
+pub fn put_number<W: Write>(
+    out: &mut W,
+    page: &mut [u8],
+    at: &mut usize,
+    n: u64,
+) -> io::Result<()> {
+    let mut printer = Printer { out, page, at };
+    write!(printer, "{n}")
 }
 
 // The entry for a place of a name, or 0 where the mapping has none.
@@ -78,44 +138,51 @@ fn entry_at(mapping: &[u8], i: usize) -> u64 {
 }
 
 // An entry, with a comma before it unless it is the first.
-fn put_entry(page: &mut [u8], at: &mut usize, mapping: &[u8], i: usize) {
-    if i == 0 {
-        put_number(page, at, entry_at(mapping, 0));
-        return;
+fn put_entry<W: Write>(
+    out: &mut W,
+    page: &mut [u8],
+    at: &mut usize,
+    mapping: &[u8],
+    i: usize,
+) -> io::Result<()> {
+    if 0 < i {
+        put(out, page, at, b",")?;
     }
-    put(page, at, b",");
-    put_number(page, at, entry_at(mapping, i));
+    put_number(out, page, at, entry_at(mapping, i))
 }
 
 // A reading of n entries, with commas between them; `-` for none.
-pub fn put_reading(page: &mut [u8], at: &mut usize, mapping: &[u8], n: usize) {
+pub fn put_reading<W: Write>(
+    out: &mut W,
+    page: &mut [u8],
+    at: &mut usize,
+    mapping: &[u8],
+    n: usize,
+) -> io::Result<()> {
     if n == 0 {
-        put(page, at, b"-");
-        return;
+        return put(out, page, at, b"-");
     }
-    let mut i = 0;
-    while i < n {
-        put_entry(page, at, mapping, i);
-        i += 1;
+    for i in 0..n {
+        put_entry(out, page, at, mapping, i)?;
     }
+    Ok(())
 }
 
 // Without a page: written at once.
-pub fn say(bytes: &[u8]) {
-    io::write_all(STDOUT_FILENO, bytes);
+pub fn say<W: Write>(out: &mut W, bytes: &[u8]) -> io::Result<()> {
+    out.write_all(bytes)
 }
 
 // A number as the next field of a line.
-pub fn say_field(n: u64) {
-    say(b" ");
-    io::print_decimal(STDOUT_FILENO, n);
+pub fn say_field<W: Write>(out: &mut W, n: u64) -> io::Result<()> {
+    write!(out, " {n}")
 }
 
-pub fn say_reading(mapping: &[u8], n: usize) {
+pub fn say_reading<W: Write>(out: &mut W, mapping: &[u8], n: usize) -> io::Result<()> {
     let mut page = [0u8; 1024];
     let mut at = 0;
-    put_reading(&mut page, &mut at, mapping, n);
-    close(&page, at);
+    put_reading(out, &mut page, &mut at, mapping, n)?;
+    close(out, &page, at)
 }
 
 // The first n of some bytes, or all of them where they are fewer.

@@ -10,18 +10,24 @@
 
 ghost use Rattle.std.specs.Prelude.{◌≤◌, ◌<◌, length};
 
-use console::{all_are, end_of, front, say, say_field, say_reading};
-use libc::STDIN_FILENO;
+use console::{Failure, all_are, end_of, front, read_full, say, say_field, say_reading, status};
+use std::io;
+use std::io::{Read, Write};
+use std::process::ExitCode;
 
 // What a buffer holds before a call.
 const RUBBISH: u8 = 0xa5;
 
+// Bytes for a sheet, a name or a mapping.
+const ROOM: usize = 4096;
+
+// Bytes for the input, or for a work area.
+const LARGE_ROOM: usize = 65536;
+
 // Fills a buffer.
 fn put(buffer: &mut [u8], b: u8) {
-    let mut i = 0;
-    while i < buffer.len() {
-        buffer[i] = b;
-        i += 1;
+    for byte in buffer.iter_mut() {
+        *byte = b;
     }
 }
 
@@ -37,19 +43,21 @@ fn copy(buffer: &mut [u8], from: &[u8]) {
     }
 }
 
-fn tidy(well: bool) {
+fn tidy<W: Write>(out: &mut W, well: bool) -> io::Result<()> {
     if !well {
-        say(b" untidy");
+        say(out, b" untidy")?;
     }
+    Ok(())
 }
 
 // After an answer that a search gave: the rows are zero and the rest of the area is as it was.
-fn tidy_area(work: &[u8], n: usize) {
+fn tidy_area<W: Write>(out: &mut W, work: &[u8], n: usize) -> io::Result<()> {
     if n <= rules::NAME_LIMIT {
         let rows = rules::ROW_SIZE * (n + 1);
-        tidy(all_are(front(work, rows), 0, 0));
-        tidy(all_are(work, rows, RUBBISH));
+        tidy(out, all_are(front(work, rows), 0, 0))?;
+        tidy(out, all_are(work, rows, RUBBISH))?;
     }
+    Ok(())
 }
 
 // Whether nothing stands after n entries.
@@ -61,116 +69,188 @@ fn ends_with(mapping: &[u8], n: usize) -> bool {
 }
 
 // What first or next answered to a name of n bytes: a reading, the rest of the mapping wiped; or a number, all of it wiped.
-fn say_answer(r: u64, n: usize, mapping: &[u8], work: &[u8]) {
-    tidy_area(work, n);
+fn say_answer<W: Write>(
+    out: &mut W,
+    r: u64,
+    n: usize,
+    mapping: &[u8],
+    work: &[u8],
+) -> io::Result<()> {
+    tidy_area(out, work, n)?;
     if r == 0 {
-        say(b" ");
-        say_reading(mapping, n);
-        tidy(ends_with(mapping, n));
+        say(out, b" ")?;
+        say_reading(out, mapping, n)?;
+        tidy(out, ends_with(mapping, n))
     } else {
-        say_field(r);
-        tidy(all_are(mapping, 0, 0));
+        say_field(out, r)?;
+        tidy(out, all_are(mapping, 0, 0))
     }
 }
 
 // One call of first: its reading, or its number.
-fn ask_first(sheet: &[u8], name: &[u8], mapping: &mut [u8], work: &mut [u8]) -> u64 {
+fn ask_first<W: Write>(
+    out: &mut W,
+    sheet: &[u8],
+    name: &[u8],
+    mapping: &mut [u8],
+    work: &mut [u8],
+) -> io::Result<u64> {
     put(mapping, RUBBISH);
     put(work, RUBBISH);
     let r = reader::number(reader::first(sheet, name, mapping, work));
-    say_answer(r, name.len(), mapping, work);
-    r
+    say_answer(out, r, name.len(), mapping, work)?;
+    Ok(r)
 }
 
 // One call of next on what the mapping holds: the next reading, or its number.
-fn ask_next(sheet: &[u8], name: &[u8], mapping: &mut [u8], work: &mut [u8]) -> u64 {
+fn ask_next<W: Write>(
+    out: &mut W,
+    sheet: &[u8],
+    name: &[u8],
+    mapping: &mut [u8],
+    work: &mut [u8],
+) -> io::Result<u64> {
     put(work, RUBBISH);
     let r = reader::number(reader::next(sheet, name, mapping, work));
-    say_answer(r, name.len(), mapping, work);
-    r
+    say_answer(out, r, name.len(), mapping, work)?;
+    Ok(r)
 }
 
 // One call of check on what the mapping holds.
-fn ask_check(sheet: &[u8], name: &[u8], mapping: &[u8], work: &mut [u8]) -> u64 {
+fn ask_check<W: Write>(
+    out: &mut W,
+    sheet: &[u8],
+    name: &[u8],
+    mapping: &[u8],
+    work: &mut [u8],
+) -> io::Result<u64> {
     put(work, RUBBISH);
     let r = reader::number(reader::check(sheet, name, mapping, work));
-    tidy_area(work, name.len());
-    r
+    tidy_area(out, work, name.len())?;
+    Ok(r)
 }
 
 // Accept, then all readings in order, each checked, with the number that ends the list, and what next answers after that.
-fn list(sheet: &[u8], name: &[u8], mapping: &mut [u8], work: &mut [u8]) {
+fn list<W: Write>(
+    out: &mut W,
+    sheet: &[u8],
+    name: &[u8],
+    mapping: &mut [u8],
+    work: &mut [u8],
+) -> io::Result<()> {
     put(work, RUBBISH);
-    say_field(reader::number(reader::accept(sheet, name, work)));
-    tidy_area(work, name.len());
-    say(b":");
-    let mut r = ask_first(sheet, name, mapping, work);
-    let mut k: usize = 0;
-    while k < 1000 {
+    say_field(out, reader::number(reader::accept(sheet, name, work)))?;
+    tidy_area(out, work, name.len())?;
+    say(out, b":")?;
+    let mut r = ask_first(out, sheet, name, mapping, work)?;
+    for _ in 0..1000 {
         if r != 0 {
             break;
         }
-        tidy(ask_check(sheet, name, mapping, work) == 0);
-        r = ask_next(sheet, name, mapping, work);
-        k += 1;
+        let checked = ask_check(out, sheet, name, mapping, work)?;
+        tidy(out, checked == 0)?;
+        r = ask_next(out, sheet, name, mapping, work)?;
     }
-    ask_next(sheet, name, mapping, work);
+    ask_next(out, sheet, name, mapping, work)?;
+    Ok(())
 }
 
 // Check and next on a given sequence, with rubbish after it.
-fn given(sheet: &[u8], name: &[u8], sequence: &[u8], mapping: &mut [u8], work: &mut [u8]) {
+fn given<W: Write>(
+    out: &mut W,
+    sheet: &[u8],
+    name: &[u8],
+    sequence: &[u8],
+    mapping: &mut [u8],
+    work: &mut [u8],
+) -> io::Result<()> {
     put(mapping, RUBBISH);
     copy(mapping, sequence);
-    say_field(ask_check(sheet, name, mapping, work));
-    tidy(all_are(mapping, sequence.len(), RUBBISH));
-    ask_next(sheet, name, mapping, work);
+    let checked = ask_check(out, sheet, name, mapping, work)?;
+    say_field(out, checked)?;
+    tidy(out, all_are(mapping, sequence.len(), RUBBISH))?;
+    ask_next(out, sheet, name, mapping, work)?;
+    Ok(())
 }
 
 // Accept: the area stays where it is refused.
-fn ask_accept(sheet: &[u8], name: &[u8], work: &mut [u8]) {
+fn ask_accept<W: Write>(out: &mut W, sheet: &[u8], name: &[u8], work: &mut [u8]) -> io::Result<()> {
     put(work, RUBBISH);
     let r = reader::number(reader::accept(sheet, name, work));
-    say_field(r);
+    say_field(out, r)?;
     if r < 2 {
-        tidy_area(work, name.len());
+        tidy_area(out, work, name.len())
     } else {
-        tidy(all_are(work, 0, RUBBISH));
+        tidy(out, all_are(work, 0, RUBBISH))
     }
 }
 
 // First where it may not search: the area stays, and the mapping is wiped.
-fn refused_first(sheet: &[u8], name: &[u8], mapping: &mut [u8], work: &mut [u8]) {
+fn refused_first<W: Write>(
+    out: &mut W,
+    sheet: &[u8],
+    name: &[u8],
+    mapping: &mut [u8],
+    work: &mut [u8],
+) -> io::Result<()> {
     put(work, RUBBISH);
     put(mapping, RUBBISH);
-    say_field(reader::number(reader::first(sheet, name, mapping, work)));
-    tidy(all_are(mapping, 0, 0));
-    tidy(all_are(work, 0, RUBBISH));
+    say_field(
+        out,
+        reader::number(reader::first(sheet, name, mapping, work)),
+    )?;
+    tidy(out, all_are(mapping, 0, 0))?;
+    tidy(out, all_are(work, 0, RUBBISH))
 }
 
 // Next, likewise.
-fn refused_next(sheet: &[u8], name: &[u8], mapping: &mut [u8], work: &mut [u8]) {
+fn refused_next<W: Write>(
+    out: &mut W,
+    sheet: &[u8],
+    name: &[u8],
+    mapping: &mut [u8],
+    work: &mut [u8],
+) -> io::Result<()> {
     put(work, RUBBISH);
     put(mapping, RUBBISH);
-    say_field(reader::number(reader::next(sheet, name, mapping, work)));
-    tidy(all_are(mapping, 0, 0));
-    tidy(all_are(work, 0, RUBBISH));
+    say_field(
+        out,
+        reader::number(reader::next(sheet, name, mapping, work)),
+    )?;
+    tidy(out, all_are(mapping, 0, 0))?;
+    tidy(out, all_are(work, 0, RUBBISH))
 }
 
 // Check, which leaves its mapping.
-fn refused_check(sheet: &[u8], name: &[u8], mapping: &mut [u8], work: &mut [u8]) {
+fn refused_check<W: Write>(
+    out: &mut W,
+    sheet: &[u8],
+    name: &[u8],
+    mapping: &mut [u8],
+    work: &mut [u8],
+) -> io::Result<()> {
     put(work, RUBBISH);
     put(mapping, RUBBISH);
-    say_field(reader::number(reader::check(sheet, name, mapping, work)));
-    tidy(all_are(mapping, 0, RUBBISH));
-    tidy(all_are(work, 0, RUBBISH));
+    say_field(
+        out,
+        reader::number(reader::check(sheet, name, mapping, work)),
+    )?;
+    tidy(out, all_are(mapping, 0, RUBBISH))?;
+    tidy(out, all_are(work, 0, RUBBISH))
 }
 
 // All four calls.
-fn ask_all(sheet: &[u8], name: &[u8], mapping: &mut [u8], work: &mut [u8]) {
-    ask_accept(sheet, name, work);
-    refused_first(sheet, name, mapping, work);
-    refused_next(sheet, name, mapping, work);
-    refused_check(sheet, name, mapping, work);
+fn ask_all<W: Write>(
+    out: &mut W,
+    sheet: &[u8],
+    name: &[u8],
+    mapping: &mut [u8],
+    work: &mut [u8],
+) -> io::Result<()> {
+    ask_accept(out, sheet, name, work)?;
+    refused_first(out, sheet, name, mapping, work)?;
+    refused_next(out, sheet, name, mapping, work)?;
+    refused_check(out, sheet, name, mapping, work)
 }
 
 // Where the field after that begins.
@@ -256,49 +336,79 @@ fn value(text: &[u8], most: usize) -> usize
 }
 
 // One case.
-fn case(line: &[u8], sheet: &mut [u8], name: &mut [u8], mapping: &mut [u8], work: &mut [u8]) {
-    say(field(line, 1));
+fn case<W: Write>(
+    out: &mut W,
+    line: &[u8],
+    sheet: &mut [u8],
+    name: &mut [u8],
+    mapping: &mut [u8],
+    work: &mut [u8],
+) -> io::Result<()> {
+    say(out, field(line, 1))?;
     let s = unhex(field(line, 2), sheet);
     let n = unhex(field(line, 3), name);
-    case_of(line, &sheet[0..s], &name[0..n], mapping, work);
-    say(b"\n");
+    case_of(out, line, &sheet[0..s], &name[0..n], mapping, work)?;
+    say(out, b"\n")
 }
 
-fn case_of(line: &[u8], sheet: &[u8], name: &[u8], mapping: &mut [u8], work: &mut [u8]) {
+fn case_of<W: Write>(
+    out: &mut W,
+    line: &[u8],
+    sheet: &[u8],
+    name: &[u8],
+    mapping: &mut [u8],
+    work: &mut [u8],
+) -> io::Result<()> {
     if line.len() == 0 {
-        return;
+        return Ok(());
     }
     let kind = line[0];
     if kind == b'L' {
-        list(sheet, name, mapping, work);
-        return;
+        return list(out, sheet, name, mapping, work);
     }
     if kind == b'G' {
         let mut sequence = [0u8; 8];
         let q = unhex(field(line, 4), &mut sequence);
-        given(sheet, name, &sequence[0..q], mapping, work);
-        return;
+        return given(out, sheet, name, &sequence[0..q], mapping, work);
     }
     let m = value(field(line, 4), mapping.len());
     let w = value(field(line, 5), work.len());
-    ask_all(sheet, name, &mut mapping[0..m], &mut work[0..w]);
+    ask_all(out, sheet, name, &mut mapping[0..m], &mut work[0..w])
 }
 
-fn run(input: &[u8], sheet: &mut [u8], name: &mut [u8], mapping: &mut [u8], work: &mut [u8]) {
+fn run<W: Write>(
+    out: &mut W,
+    input: &[u8],
+    sheet: &mut [u8],
+    name: &mut [u8],
+    mapping: &mut [u8],
+    work: &mut [u8],
+) -> io::Result<()> {
     let mut at = 0;
     while at < input.len() {
         let e = end_of(input, at, b'\n');
-        case(&input[at..e], sheet, name, mapping, work);
+        case(out, &input[at..e], sheet, name, mapping, work)?;
         at = e + 1;
     }
+    Ok(())
 }
 
-fn main() {
-    let mut input = io::large_buffer();
-    let n = io::read_full(STDIN_FILENO, &mut input);
-    let mut sheet = io::buffer();
-    let mut name = io::buffer();
-    let mut mapping = io::buffer();
-    let mut work = io::large_buffer();
-    run(&input[..n], &mut sheet, &mut name, &mut mapping, &mut work);
+// All cases, in buffers that each has in turn.
+fn run_all<W: Write>(out: &mut W, input: &[u8]) -> io::Result<()> {
+    let mut sheet = [0u8; ROOM];
+    let mut name = [0u8; ROOM];
+    let mut mapping = [0u8; ROOM];
+    let mut work = [0u8; LARGE_ROOM];
+    run(out, input, &mut sheet, &mut name, &mut mapping, &mut work)
+}
+
+fn read_and_run<R: Read, W: Write>(input: &mut R, out: &mut W) -> Result<(), Failure> {
+    let mut all = [0u8; LARGE_ROOM];
+    let n = read_full(input, &mut all).map_err(|_| Failure::Input)?;
+    run_all(out, &all[..n]).map_err(|_| Failure::Output)
+}
+
+fn main(rt: HostRuntime) -> ExitCode {
+    let done = read_and_run(&mut rt.stdin(), &mut rt.stdout());
+    status(&mut rt.stderr(), done)
 }

@@ -2,86 +2,100 @@
 // It prints the front of the text, the number and the second number; a short sheet's bytes; and `not wiped` where a byte after the sheet is left.
 #![tactic(auto)]
 
-use console::{all_are, end_of, front, say, say_field};
-use libc::{STDIN_FILENO, STDOUT_FILENO};
+use console::{Failure, all_are, end_of, front, read_full, say, say_field, status};
 use sheet_call::SheetAnswer;
+use std::io;
+use std::io::{Read, Write};
+use std::process::ExitCode;
 
 const SHOWN: usize = 24;
 
-fn dump(bytes: &[u8]) {
-    let mut i = 0;
-    while i < bytes.len() {
-        say(b" ");
-        io::print_hex(STDOUT_FILENO, buffers::word(bytes[i]), 2);
-        i += 1;
+fn dump<W: Write>(out: &mut W, bytes: &[u8]) -> io::Result<()> {
+    for byte in bytes {
+        write!(out, " {byte:02x}")?;
     }
+    Ok(())
 }
 
-fn finish(buffer: &[u8], from: usize) {
+fn finish<W: Write>(out: &mut W, buffer: &[u8], from: usize) -> io::Result<()> {
     if !all_are(buffer, from, 0) {
-        say(b" not wiped");
+        say(out, b" not wiped")?;
     }
-    say(b"\n");
+    say(out, b"\n")
 }
 
-fn made(sheet: &[u8], n: usize) {
-    say_field(0);
-    say_field(n as u64);
+fn made<W: Write>(out: &mut W, sheet: &[u8], n: usize) -> io::Result<()> {
+    say_field(out, 0)?;
+    say_field(out, n as u64)?;
     if n <= SHOWN {
-        say(b":");
-        dump(front(sheet, n));
+        say(out, b":")?;
+        dump(out, front(sheet, n))?;
     }
-    finish(sheet, n);
+    finish(out, sheet, n)
 }
 
-fn report(text: &[u8], sheet: &mut [u8]) {
-    say(front(text, SHOWN));
-    let r = sheet_call::make(text, sheet);
-    match r {
-        SheetAnswer::Made(n) => {
-            made(sheet, n);
-        }
+fn report<W: Write>(out: &mut W, text: &[u8], sheet: &mut [u8]) -> io::Result<()> {
+    say(out, front(text, SHOWN))?;
+    match sheet_call::make(text, sheet) {
+        SheetAnswer::Made(n) => made(out, sheet, n),
         SheetAnswer::Refused(f) => {
-            say_field(f.number as u64);
-            say_field(f.place as u64);
-            finish(sheet, 0);
+            say_field(out, f.number as u64)?;
+            say_field(out, f.place as u64)?;
+            finish(out, sheet, 0)
         }
     }
 }
 
-fn case(text: &[u8]) {
+fn case<W: Write>(out: &mut W, text: &[u8]) -> io::Result<()> {
     let mut sheet = [0xaau8; 400];
-    report(text, &mut sheet);
+    report(out, text, &mut sheet)
 }
 
-fn lines(input: &[u8]) {
+fn lines<W: Write>(out: &mut W, input: &[u8]) -> io::Result<()> {
     let mut i = 0;
     while i < input.len() {
         let e = end_of(input, i, b'\n');
-        case(&input[i..e]);
+        case(out, &input[i..e])?;
         i = e + 1;
     }
+    Ok(())
 }
 
 // With room for so many bytes.
-fn report_into(text: &[u8], sheet: &mut [u8], room: usize) {
+fn report_into<W: Write>(
+    out: &mut W,
+    text: &[u8],
+    sheet: &mut [u8],
+    room: usize,
+) -> io::Result<()> {
     if room <= sheet.len() {
-        report(text, &mut sheet[..room]);
+        report(out, text, &mut sheet[..room])?;
     }
+    Ok(())
 }
 
 // 18 comes after all else.
-fn buffers() {
+fn buffers<W: Write>(out: &mut W) -> io::Result<()> {
     let mut sheet = [0xaau8; 12];
-    report_into(b"(a|(ba))*", &mut sheet, 11);
-    report_into(b"(a|(ba))*", &mut sheet, 12);
-    report_into(b"a", &mut sheet, 0);
-    report_into(b"a{0,65}", &mut sheet, 0);
+    report_into(out, b"(a|(ba))*", &mut sheet, 11)?;
+    report_into(out, b"(a|(ba))*", &mut sheet, 12)?;
+    report_into(out, b"a", &mut sheet, 0)?;
+    report_into(out, b"a{0,65}", &mut sheet, 0)
 }
 
-fn main() {
-    let mut input = [0u8; 8192];
-    let n = io::read_full(STDIN_FILENO, &mut input);
-    lines(&input[..n]);
-    buffers();
+// All cases.
+fn run_all<W: Write>(out: &mut W, input: &[u8]) -> io::Result<()> {
+    lines(out, input)?;
+    buffers(out)
+}
+
+fn read_and_run<R: Read, W: Write>(input: &mut R, out: &mut W) -> Result<(), Failure> {
+    let mut all = [0u8; 8192];
+    let n = read_full(input, &mut all).map_err(|_| Failure::Input)?;
+    run_all(out, &all[..n]).map_err(|_| Failure::Output)
+}
+
+fn main(rt: HostRuntime) -> ExitCode {
+    let done = read_and_run(&mut rt.stdin(), &mut rt.stdout());
+    status(&mut rt.stderr(), done)
 }
