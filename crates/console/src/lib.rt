@@ -5,9 +5,12 @@
 // whatever is put there fails as well.
 #![tactic(auto)]
 
-ghost use Rattle.std.specs.Prelude.{◌≤◌, length};
+ghost use Rattle.std.specs.Prelude.{◌≡◌, ◌∷◌, [], ◌<◌, ◌≤◌, length, take, decimal, OnOk, OnErr, IfOk, IsErr};
 ghost use Rattle.std.specs.Io.{ReadsAtMost};
+ghost use Rattle.std.specs.Io.KnownBytes.{Appends};
+ghost use Rattle.console.specs.Page.{told};
 
+use itoa::Buffer;
 use mapping::Place;
 use std::io;
 use std::io::{Read, Write};
@@ -54,7 +57,12 @@ pub fn read_full<R: Read>(input: &mut R, buffer: &mut [u8]) -> io::Result<usize>
 }
 
 // Writes the page up to the place, which then is the page's start again.
-fn write_page<W: Write>(out: &mut W, page: &[u8], at: &mut usize) -> io::Result<()> {
+fn write_page<W: Write>(out: &mut W, page: &[u8], at: &mut usize) -> io::Result<()>
+    ensures again { OnOk result (at.new ≡ 0) }
+    ensures written { OnOk result (Appends (W.contents out.old) (W.contents out.new) (take at.old page.now)) }
+    ensures lost { OnErr result (length page.now < at.new) }
+    ensures refused { length page.now < at.old → IsErr result × (out.new ≡ out.old) }
+{
     let end = *at;
     *at = LOST;
     if page.len() < end {
@@ -66,7 +74,13 @@ fn write_page<W: Write>(out: &mut W, page: &[u8], at: &mut usize) -> io::Result<
 }
 
 // The place for the next byte, after a full page is written.
-fn place_for<W: Write>(out: &mut W, page: &[u8], at: &mut usize) -> io::Result<usize> {
+fn place_for<W: Write>(out: &mut W, page: &[u8], at: &mut usize) -> io::Result<usize>
+    ensures place { IfOk result (λ place. place ≡ at.new) }
+    ensures room { OnOk result (0 < length page.now → at.new < length page.now) }
+    ensures told { OnOk result (Appends (told (W.contents out.old) page.now at.old) (told (W.contents out.new) page.now at.new) []) }
+    ensures lost { OnErr result (length page.now < at.new) }
+    ensures refused { length page.now < at.old → IsErr result × (out.new ≡ out.old) }
+{
     if page.len() <= *at {
         write_page(out, page, at)?;
     }
@@ -74,7 +88,11 @@ fn place_for<W: Write>(out: &mut W, page: &[u8], at: &mut usize) -> io::Result<u
 }
 
 // One byte; the place goes on to the one after it.
-fn put_byte<W: Write>(out: &mut W, page: &mut [u8], at: &mut usize, byte: u8) -> io::Result<()> {
+fn put_byte<W: Write>(out: &mut W, page: &mut [u8], at: &mut usize, byte: u8) -> io::Result<()>
+    ensures told { OnOk result (0 < length page.old → Appends (told (W.contents out.old) page.old at.old) (told (W.contents out.new) page.new at.new) (byte ∷ [])) }
+    ensures lost { OnErr result (length page.old < at.new) }
+    ensures refused { length page.old < at.old → IsErr result × (out.new ≡ out.old) }
+{
     let place = place_for(out, page, at)?;
     if place < page.len() {
         page[place] = byte;
@@ -84,46 +102,33 @@ fn put_byte<W: Write>(out: &mut W, page: &mut [u8], at: &mut usize, byte: u8) ->
 }
 
 // Writes what is left of the page: a program's last word.
-pub fn close<W: Write>(out: &mut W, page: &[u8], at: usize) -> io::Result<()> {
+pub fn close<W: Write>(out: &mut W, page: &[u8], at: usize) -> io::Result<()>
+    ensures written { OnOk result (Appends (W.contents out.old) (W.contents out.new) (take at page.now)) }
+    ensures refused { length page.now < at → IsErr result × (out.new ≡ out.old) }
+{
     let mut place = at;
     write_page(out, page, &mut place)?;
     out.flush()
 }
 
-pub fn put<W: Write>(out: &mut W, page: &mut [u8], at: &mut usize, bytes: &[u8]) -> io::Result<()> {
+pub fn put<W: Write>(out: &mut W, page: &mut [u8], at: &mut usize, bytes: &[u8]) -> io::Result<()>
+    ensures told { OnOk result (0 < length page.old → Appends (told (W.contents out.old) page.old at.old) (told (W.contents out.new) page.new at.new) bytes.now) }
+    ensures lost { OnErr result (length page.old < at.new) }
+    ensures refused { length page.old < at.old → out.new ≡ out.old }
+{
     for byte in bytes {
         put_byte(out, page, at, *byte)?;
     }
     Ok(())
 }
 
-// A page with its place, as a writer: what is printed to it is put.
-#[derive(Drop)]
-struct Printer<'a, W> {
-    out: &'a mut W,
-    page: &'a mut [u8],
-    at: &'a mut usize,
-}
-
-impl<W: Write> Write for Printer<'_, W> {
-    fn write(&mut self, bytes: &[u8]) -> io::Result<usize> {
-        put(self.out, self.page, self.at, bytes)?;
-        Ok(bytes.len())
-    }
-
-    fn flush(&mut self) -> io::Result<()> {
-        Ok(())
-    }
-}
-
-pub fn put_number<W: Write>(
-    out: &mut W,
-    page: &mut [u8],
-    at: &mut usize,
-    n: u64,
-) -> io::Result<()> {
-    let mut printer = Printer { out, page, at };
-    write!(printer, "{n}")
+pub fn put_number<W: Write>(out: &mut W, page: &mut [u8], at: &mut usize, n: u64) -> io::Result<()>
+    ensures told { OnOk result (0 < length page.old → Appends (told (W.contents out.old) page.old at.old) (told (W.contents out.new) page.new at.new) (decimal n)) }
+    ensures lost { OnErr result (length page.old < at.new) }
+    ensures refused { length page.old < at.old → out.new ≡ out.old }
+{
+    let mut digits = Buffer::new();
+    put(out, page, at, digits.format(n).as_bytes())
 }
 
 // The entry for a place of a name, or 0 where the mapping has none.
@@ -169,12 +174,16 @@ pub fn put_reading<W: Write>(
 }
 
 // Without a page: written at once.
-pub fn say<W: Write>(out: &mut W, bytes: &[u8]) -> io::Result<()> {
+pub fn say<W: Write>(out: &mut W, bytes: &[u8]) -> io::Result<()>
+    ensures { OnOk result (Appends (W.contents out.old) (W.contents out.new) bytes.now) }
+{
     out.write_all(bytes)
 }
 
 // A number as the next field of a line.
-pub fn say_field<W: Write>(out: &mut W, n: u64) -> io::Result<()> {
+pub fn say_field<W: Write>(out: &mut W, n: u64) -> io::Result<()>
+    ensures { OnOk result (Appends (W.contents out.old) (W.contents out.new) (32 ∷ decimal n)) }
+{
     write!(out, " {n}")
 }
 
