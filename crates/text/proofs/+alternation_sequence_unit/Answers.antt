@@ -63,6 +63,7 @@ sequence-loop-q-preserved t c =
     }
 
 -- A UNIT
+-- It is `()`, an alternation in parentheses, a literal, or the refusal of what stands there; the stars after it go on with it.
 opened : (t : List ℕ) (d : ℕ) (from : Progress) → d ≢ 0 → starts (drop from.place t) left_parenthesis ≡ true → Opens t d (d - 1) from
 opened t d from n e = record { deeper = omega arith; bracket = e }
 

@@ -5,7 +5,7 @@ use Rattle.text.proofs.Parts.{part_plain, part_literal}
 use Rattle.text.proofs.Readers.{begun, plain_onward, literal_onward}
 use Rattle.text.proofs.literal.Goals as goal
 
--- A plain byte is a leaf; another literal is its copies. The stars after it are read in each case.
+-- A plain byte is a leaf; another literal is its copies; a fault ends the walk. The stars after it are read in each case.
 pub returns-then-plain_at : goal.returns-then-plain_at
 returns-then-plain_at c =
     let args = c.args in

@@ -2,7 +2,7 @@ use Rattle.std.proofs.Common.{sym, ◌∙◌}
 use Rattle.text.proofs.Faults.{missing_join}
 use Rattle.text.proofs.missing.Goals as goal
 
--- a bar or a star
+-- Where no unit starts stands a closed parenthesis, a bar or a star, or the end; a bar or a star takes a law of the walk.
 pub returns-then-at-text : goal.returns-then-at-text
 returns-then-at-text c =
     let args = c.args in
