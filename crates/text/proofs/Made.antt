@@ -12,7 +12,7 @@ use Rattle.rules.specs.Limits.{open_limit, leaf_limit, node_limit, outside}
 use Rattle.rules.proofs.Grounds.{no_some, passed, not_because}
 use Rattle.language.specs.Tree.{Tree, size}
 use Rattle.lexer.specs.Tokens.{a_bar, a_star, a_close, Placed, placed, tokens_from}
-use Rattle.lexer.specs.Faults.{leaves_of, passing}
+use Rattle.lexer.specs.Faults.{passing}
 use Rattle.lexer.proofs.Walks.{total, passed_total}
 use Rattle.lexer.proofs.Literals.{Writable, writable}
 use Rattle.sheet.specs.Make.{leaves, postorder, sheet_of}

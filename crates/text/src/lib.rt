@@ -17,7 +17,7 @@ use rules::{
 use sheet::{CAT_NODE, EMPTY_NODE, LEAF_NODE, STAR_NODE, UNION_NODE};
 
 // How far a reader came: the place after what was read, and how many nodes and leaves there are so far.
-#[derive(Drop)]
+#[derive(Clone, Copy)]
 pub struct Progress {
     pub place: usize,
     pub nodes: usize,
