@@ -1,4 +1,4 @@
-// The calls as the workstation links them: packing, and nothing else.
+// The calls that answer with one packed number: packing, and nothing else. The crate satchelram_c exports them to C.
 #![tactic(auto)]
 
 ghost use Rattle.std.specs.Prelude.{◌≡◌, [], ◌<◌};
@@ -21,8 +21,7 @@ fn pack(number: u64, second: u64) -> u64
 }
 
 // Makes a sheet of an expression text: 0 with the sheet's length, or a refusal with its place.
-#[unsafe(no_mangle)]
-pub extern "C" fn satchelram_sheet(text: &[u8], sheet: &mut [u8]) -> u64
+pub fn satchelram_sheet(text: &[u8], sheet: &mut [u8]) -> u64
     ensures { Exports (SheetCall text.now sheet.old (sheet_end_in result sheet.new)) result }
 {
     let a = sheet_call::make(text, sheet);
@@ -33,55 +32,35 @@ pub extern "C" fn satchelram_sheet(text: &[u8], sheet: &mut [u8]) -> u64
 }
 
 // Whether a name is in a sheet's language.
-#[unsafe(no_mangle)]
-pub extern "C" fn satchelram_accept(sheet: &[u8], name: &[u8], work: &mut [u8]) -> u64
+pub fn satchelram_accept(sheet: &[u8], name: &[u8], work: &mut [u8]) -> u64
     ensures { Exports (AcceptCall sheet.now name.now work.old (end_in result [] work.new)) result }
 {
     pack(reader::number(reader::accept(sheet, name, work)), 0)
 }
 
 // The first reading of a name.
-#[unsafe(no_mangle)]
-pub extern "C" fn satchelram_first(
-    sheet: &[u8],
-    name: &[u8],
-    mapping: &mut [u8],
-    work: &mut [u8],
-) -> u64
+pub fn satchelram_first(sheet: &[u8], name: &[u8], mapping: &mut [u8], work: &mut [u8]) -> u64
     ensures { Exports (FirstCall sheet.now name.now mapping.old work.old (end_in result mapping.new work.new)) result }
 {
     pack(reader::number(reader::first(sheet, name, mapping, work)), 0)
 }
 
 // The next reading after the one that the mapping holds.
-#[unsafe(no_mangle)]
-pub extern "C" fn satchelram_next(
-    sheet: &[u8],
-    name: &[u8],
-    mapping: &mut [u8],
-    work: &mut [u8],
-) -> u64
+pub fn satchelram_next(sheet: &[u8], name: &[u8], mapping: &mut [u8], work: &mut [u8]) -> u64
     ensures { Exports (NextCall sheet.now name.now mapping.old work.old (end_in result mapping.new work.new)) result }
 {
     pack(reader::number(reader::next(sheet, name, mapping, work)), 0)
 }
 
 // Whether the sequence that the mapping holds is a reading.
-#[unsafe(no_mangle)]
-pub extern "C" fn satchelram_check(
-    sheet: &[u8],
-    name: &[u8],
-    mapping: &[u8],
-    work: &mut [u8],
-) -> u64
+pub fn satchelram_check(sheet: &[u8], name: &[u8], mapping: &[u8], work: &mut [u8]) -> u64
     ensures { Exports (CheckCall sheet.now name.now mapping.now work.old (end_in result mapping.now work.new)) result }
 {
     pack(reader::number(reader::check(sheet, name, mapping, work)), 0)
 }
 
 // The version of this library, to be compared with the header's.
-#[unsafe(no_mangle)]
-pub extern "C" fn satchelram_version() -> u64
+pub fn satchelram_version() -> u64
     ensures { result ≡ version }
 {
     1000
