@@ -1,6 +1,6 @@
 #!/usr/bin/env bash
 # install.sh PREFIX [ARCHIVE_DIR]: installs the library from ARCHIVE_DIR/libsatchelram.a (by default target/staticlib, where
-# `rt staticlib satchelram` puts it):
+# archive.sh puts it):
 #
 #     PREFIX/include/satchelram.h
 #     LIBDIR/libsatchelram.a
@@ -71,7 +71,7 @@ if [ -n "$uninstall" ]; then
 fi
 
 archive=${2:-$root/target/staticlib}/libsatchelram.a
-[ -f "$archive" ] || stop "no archive at $archive: make it with rt staticlib satchelram"
+[ -f "$archive" ] || stop "no archive at $archive: make it with archive.sh"
 version=$(sed -n 's/^#define SATCHELRAM_VERSION "\(.*\)"$/\1/p' "$header")
 [ -n "$version" ] || stop "$header names no version"
 soname=libsatchelram.so.${version%%.*}

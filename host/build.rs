@@ -10,7 +10,7 @@ const FOLDER: &str = "SATCHELRAM_LIB_DIR";
 fn stop(wrong: &str) -> ! {
     eprintln!("{}", wrong);
     eprintln!("The feature `archive` links libsatchelram.a. Make it in the repository's root, and name its folder:");
-    eprintln!("    rt staticlib satchelram");
+    eprintln!("    ./archive.sh");
     eprintln!("    export {}=$PWD/target/staticlib", FOLDER);
     eprintln!("or build without the feature, which leaves the matcher alone. `bash host/run.sh target/staticlib` runs every test.");
     exit(1);

@@ -30,7 +30,7 @@ while [ $# -gt 0 ]; do
     shift
 done
 [ -n "$archive_dir" ] || stop "$usage"
-[ -f "$archive_dir/libsatchelram.a" ] || stop "no libsatchelram.a in $archive_dir: make it with rt staticlib satchelram"
+[ -f "$archive_dir/libsatchelram.a" ] || stop "no libsatchelram.a in $archive_dir: make it with archive.sh"
 archive_dir=$(cd "$archive_dir" && pwd)
 if [ -z "$seed" ]; then
     seed=1
