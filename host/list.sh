@@ -105,34 +105,43 @@ touch crates/rules/src/lib.rt
 ends 'a touched source' 0 "$five" 'rt checks that the program belongs to its sources' from "$temporary/example" ./list
 ends 'and again' 0 "$five" '' from "$temporary/example" ./list
 
-# A first run, with a kit that only pretends: its rt says what it proves and writes a program, or fails; its machine is the one that it says.
+# A first run, with a kit that only pretends: its rt says what it proves, prints what the program would, and leaves a program, or fails; its
+# machine is the one that it says; the program ends as it is told.
 kit=$temporary/kit new=$temporary/new
-mkdir -p "$kit/bin" "$kit/on/aarch64/toolchain/bin" "$new/crates"
+mkdir -p "$kit/bin" "$new/crates/listing"
 cp list crates.txt "$new"
 cat >"$kit/bin/rt" <<'END'
 #!/bin/sh
-echo "library std: not to be shown"
-echo "rt: bits proved (7 s)"
-[ -z "$PRETEND_FAULT" ] || { echo "a fault in a proof"; exit 1; }
-mkdir -p target/bin
-printf '#!/bin/sh\necho ran\n' >target/bin/listing
-chmod +x target/bin/listing
+[ "$*" = run ] && [ "$(basename "$PWD")" = listing ] || { echo "rt $* in $PWD" >&2; exit 2; }
+{
+    echo "rt: chose --jobs 2 for bits"
+    echo "fn bits::link: proved"
+    echo "logic=proved functions=7"
+    [ -z "$PRETEND_FAULT" ] || { echo "a fault in a proof"; exit 1; }
+    echo "rt: running out/listing"
+} >&2
+echo "not to be shown"
+mkdir -p out
+printf '#!/bin/sh\necho ran\n[ -z "$PRETEND_WORDS" ] || echo "$PRETEND_WORDS" >&2\nexit ${PRETEND_STATUS:-0}\n' >out/listing
+chmod +x out/listing
 END
 # shellcheck disable=SC2016 # the scripts' own
 printf '#!/bin/sh\necho "${PRETEND_MACHINE:-x86_64}"\n' >"$kit/bin/uname"
-# shellcheck disable=SC2016
-printf '#!/bin/sh\necho "$0 $*"\n' >"$kit/on/aarch64/toolchain/bin/qemu-x86_64"
-chmod +x "$kit/bin/rt" "$kit/bin/uname" "$kit/on/aarch64/toolchain/bin/qemu-x86_64"
+chmod +x "$kit/bin/rt" "$kit/bin/uname"
 pretend() { env PATH="$kit/bin:$PATH" "$@" "$new/list" </dev/null; }
 ends 'a build that fails' 1 '' 'a fault in a proof' pretend PRETEND_FAULT=1
 ends 'a first run says that it builds' 0 ran 'some minutes' pretend
 rm -r "$new/target"
-ends 'and what is proved' 0 ran './list: bits proved (7 s)' pretend
+ends 'and what is proved' 0 ran './list: bits proved' pretend
 ends 'a second run' 0 ran '' pretend
-tools=$kit/on/aarch64/toolchain
-ends 'aarch64: the emulator, loader and libraries of the kit' 0 \
-    "$tools/bin/qemu-x86_64 $tools/lib/ld-linux-x86-64.so.2 --library-path $tools/lib $new/target/bin/listing" '' pretend PRETEND_MACHINE=aarch64
-ends 'a machine that the kit has nothing for' 1 '' 'no emulator' pretend PRETEND_MACHINE=riscv64
+touch "$new/crates/listing/out/listing"
+ends 'what rt makes is no source' 0 ran '' pretend
+ends 'a program that fails' 1 ran './list: failed: so' pretend PRETEND_WORDS='failed: so' PRETEND_STATUS=3
+ends 'and says so alone' 1 ran './list: failed: so' pretend PRETEND_WORDS='failed: so'
+ends 'or says nothing' 1 ran 'status 3' pretend PRETEND_STATUS=3
+for machine in aarch64 riscv64; do
+    ends "no program for $machine" 1 '' "this machine is $machine" pretend PRETEND_MACHINE=$machine
+done
 
 cases=$((cases + 1))
 python3 host/pieces.py || fault 'the pieces of output'
