@@ -1,5 +1,5 @@
 use native.Mathlib.Omega.{arith}
-use Rattle.sheet.proofs.Tests.{count_start, count_most, count-more, count_fewer, count_same, pair_few, star-few, count_left, count_many, count-leaves, count-right}
+use Rattle.sheet.proofs.Tests.{count_start, count_most, count-more, count_fewer, count_same, count_left, count_many, count-leaves, count-right}
 use Rattle.sheet.proofs.waiting.test_in_order.Goals as goal
 
 pub loop-i-init : goal.loop-i-init
@@ -17,29 +17,17 @@ loop-i-preserved-else-most-waiting c =
     let loop = c.loop-i in
     (omega arith, omega arith, omega arith, count-more loop.invariant.3 (omega arith) if1.true c.leaf_of-leaves.result c.leaf_of-leaves.ensures.0 c.if-most-waiting.false)
 
-pub returns-then-waiting-lt2 : goal.returns-then-waiting-lt2
-returns-then-waiting-lt2 c =
-    let if1 = c.if-node-lt-CAT_NODE in
-    let loop = c.loop-i in
-    pair_few loop.invariant.3 (omega arith) if1.false c.if-node-lt-STAR_NODE.true _ c.if-waiting-lt2.true
-
 pub loop-i-preserved-then-node-lt-STAR_NODE : goal.loop-i-preserved-then-node-lt-STAR_NODE
 loop-i-preserved-then-node-lt-STAR_NODE c =
     let if1 = c.if-node-lt-CAT_NODE in
     let loop = c.loop-i in
-    (omega arith, omega arith, omega arith, count_fewer loop.invariant.3 (omega arith) if1.false c.if-node-lt-STAR_NODE.true c.if-waiting-lt2.false)
-
-pub returns-then-waiting-lt1 : goal.returns-then-waiting-lt1
-returns-then-waiting-lt1 c =
-    let if1 = c.if-node-lt-CAT_NODE in
-    let loop = c.loop-i in
-    star-few loop.invariant.3 (omega arith) if1.false c.if-node-lt-STAR_NODE.false _ c.if-waiting-lt1.true
+    (omega arith, omega arith, omega arith, count_fewer loop.invariant.3 (omega arith) if1.false c.if-node-lt-STAR_NODE.true (omega arith))
 
 pub loop-i-preserved : goal.loop-i-preserved
 loop-i-preserved c =
     let if1 = c.if-node-lt-CAT_NODE in
     let loop = c.loop-i in
-    (omega arith, omega arith, omega arith, count_same loop.invariant.3 (omega arith) if1.false c.if-node-lt-STAR_NODE.false c.if-waiting-lt1.false)
+    (omega arith, omega arith, omega arith, count_same loop.invariant.3 (omega arith) if1.false c.if-node-lt-STAR_NODE.false (omega arith))
 
 pub returns-then-waiting-ne1 : goal.returns-then-waiting-ne1
 returns-then-waiting-ne1 c =
