@@ -52,7 +52,8 @@ fn answer(text: &[u8], sheet: &mut [u8], lits: &[u8], nodes: &[u8], read: Progre
 {
     let l = read.leaves;
     let n = read.nodes;
-    if LEAF_LIMIT < l {
+    let many = LEAF_LIMIT < l;
+    if many {
         let p = passing_place(text);
         return refuse(sheet, refused_at(p, LEAVES_MANY));
     }
