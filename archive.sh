@@ -11,6 +11,6 @@ stop() {
 [ $# -eq 0 ] || stop "usage: archive.sh"
 cd "$(dirname "$(readlink -f -- "${BASH_SOURCE[0]}")")"
 command -v rt >/dev/null || stop "the Rattle kit's command rt is not on the path"
-(cd crates/satchelram_c && rt lib) || stop "the archive was not built"
+(cd crates/satchelram_c && rt lib --cpu x86-64) || stop "the archive was not built"
 install -D -m 644 crates/satchelram_c/out/libsatchelram_c.a target/staticlib/libsatchelram.a
 echo "archive.sh: target/staticlib/libsatchelram.a is built"

@@ -62,8 +62,8 @@
  * alone, call satchelram_accept with a name of length 0 and a work area of SATCHELRAM_WORK_SIZE(0) bytes: 0 or 1 says
  * that it is a sheet, 20 to 27 what is wrong with it.
  *
- * For C99 and later, and C++98 and later. The library is ELF for x86-64-v2 (with SSE4.2) with System V calls
- * (Linux), position independent, and imports nothing but memcpy and memset.
+ * For C99 and later, and C++98 and later. The library is ELF for x86-64 with System V calls (Linux), position
+ * independent, and imports nothing but memcpy and memset.
  */
 #ifndef SATCHELRAM_H
 #define SATCHELRAM_H

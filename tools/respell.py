@@ -21,7 +21,7 @@ LIBRARY = {"bit_and", "bit_or"}
 
 
 def snake(name):
-    return re.sub(r"(?<=[a-z0-9])([A-Z])", lambda m: "_" + m[1].lower(), name)
+    return re.sub(r"(?<=[a-z0-9])[A-Z]|(?<=[A-Z])[A-Z](?=[a-z])", lambda m: "_" + m[0].lower(), name)
 
 
 def antt_files():

@@ -75,3 +75,6 @@ module _ (xs : List ℕ) (k bound : ℕ) where
   least-none i l clear =
       nowhere
       (λ x h. by_cases (dec_lt x (word_bits * i)) (λ (a : x < word_bits * i). clear x h a) (λ (a : ¬ (x < word_bits * i)). has_out xs k x (omega arith)))
+
+-- what is left to the check: a bound beyond every word
+pub ruleset beyond_all = (least-none, clear_start)

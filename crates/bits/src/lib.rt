@@ -219,6 +219,7 @@ pub fn sift(to: &mut [u64], from: &[u64], j: usize, table: &[u64], other: &[u64]
 }
 
 // The least member of set k from `bound` on; 0 if there is none.
+#[tactic(auto, using(crate::proofs::Least::beyond_all))]
 pub fn least_from(sets: &[u64], k: usize, bound: usize) -> usize
     requires { set_words * (k + 1) ≤ length sets.now }
     ensures { LeastFrom (has sets.now k) bound result }

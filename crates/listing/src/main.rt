@@ -1,5 +1,5 @@
 // The listing program of document 01: an expression and a name on two lines, every reading of the name in order.
-// It stands on the exported calls, and has no promise of its own but to be safe and to end.
+// It stands on the calls that satchelram_c exports, and has no promise of its own but to be safe and to end.
 #![tactic(auto)]
 
 ghost use Rattle.std.specs.Prelude.{◌<◌};

@@ -2,7 +2,7 @@
 #![tactic(auto)]
 
 ghost use Rattle.std.specs.Prelude.{◌≡◌, ◌++◌, ℕ, ◌+◌, ◌<◌, ◌≤◌, ltb};
-ghost use Rattle.rules.specs.Limits.{most_copies, nodes_aByte, count_limit};
+ghost use Rattle.rules.specs.Limits.{most_copies, nodes_a_byte, count_limit};
 ghost use Rattle.buffers.specs.Wrote.{Wrote, op_if};
 ghost use Rattle.sheet.specs.Nodes.{cat_node};
 ghost use Rattle.sheet.specs.Make.{postorder};
@@ -36,7 +36,7 @@ fn next_copy(nodes: &mut [u8], n: usize, i: usize, x: usize) -> usize
 
 // The nodes of a literal with its repeat, whatever its byte.
 pub fn repeat(nodes: &mut [u8], n: usize, x: usize, y: usize) -> usize
-    requires { (n + nodes_aByte ≤ count_limit) × (x ≤ y) × (y ≤ most_copies) }
+    requires { (n + nodes_a_byte ≤ count_limit) × (x ≤ y) × (y ≤ most_copies) }
     ensures { (b : ℕ) → Wrote n nodes.old result nodes.new (postorder (copies b x y)) }
 {
     if y == 0 {

@@ -109,6 +109,7 @@ fn byte_wrong(sheet: &[u8]) -> bool
 }
 
 // 21, 22 and 23.
+#[tactic(auto, using(crate::proofs::Literals::is_22))]
 pub fn test(sheet: &[u8]) -> SheetTest
     ensures { refusal_of result ≡ first_of (literal_grounds sheet.now) }
 {

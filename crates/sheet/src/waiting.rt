@@ -26,7 +26,7 @@ fn leaf_of(node: u8) -> usize
 }
 
 // 24 to 27 in their order, in one walk that counts the subtrees waiting. Only a leaf or an empty word adds one, so only there can the most that waited rise.
-#[tactic(auto, using(crate::proofs::Tests::too_few_waits))]
+#[tactic(auto, using(crate::proofs::Tests::turns))]
 fn test_in_order(nodes: &[u8], promised: usize) -> SheetTest
     ensures { refusal_of result ≡ first_of (node_grounds promised (map node_of nodes.now)) }
 {

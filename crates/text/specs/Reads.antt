@@ -2,7 +2,7 @@
 -- The public contract cites none of this.
 use Rattle.std.specs.Prelude.{◌≡◌, Bool, true, false, List, [], ◌∷◌, ℕ, ◌+◌, ◌*◌, ◌<◌, ◌≤◌, eqb, length, drop}
 use Rattle.std.proofs.Math.Option.{Option, none, some}
-use Rattle.rules.specs.Limits.{text_limit, open_limit, nodes_aByte, leaves_aByte}
+use Rattle.rules.specs.Limits.{text_limit, open_limit, nodes_a_byte, leaves_a_byte}
 use Rattle.rules.specs.declared.Refusal.{Refusal}
 use Rattle.buffers.specs.Wrote.{Wrote}
 use Rattle.language.specs.Tree.{Tree, cat}
@@ -19,15 +19,15 @@ use Rattle.text.specs.Walk.{Frame, begin, going, after, value, put, Answer, tree
 pub record Begun (len : ℕ) (p : Progress) : Type 0 where
   pub inside : p.place ≤ len
   pub short : len ≤ text_limit
-  pub nodes : p.nodes ≤ nodes_aByte * p.place
-  pub leaves : p.leaves ≤ leaves_aByte * p.place
+  pub nodes : p.nodes ≤ nodes_a_byte * p.place
+  pub leaves : p.leaves ≤ leaves_a_byte * p.place
 
 -- where it is done; slack: the operators that may yet follow
 pub record Onward (len : ℕ) (from p : Progress) (slack : ℕ) : Type 0 where
   pub further : from.place < p.place
   pub inside : p.place ≤ len
-  pub nodes : p.nodes + slack ≤ nodes_aByte * p.place
-  pub leaves : p.leaves ≤ leaves_aByte * p.place
+  pub nodes : p.nodes + slack ≤ nodes_a_byte * p.place
+  pub leaves : p.leaves ≤ leaves_a_byte * p.place
 
 -- how far a reader is, and the buffers there
 pub record State : Type 0 where

@@ -8,13 +8,6 @@ use Rattle.bits.proofs.Bits.{lowest_at}
 use Rattle.bits.proofs.Least.{clear_start, mask_first, mask_later, least-next, least-found, least-none}
 use Rattle.bits.proofs.least_from.Goals as goal
 
-pub returns-then-i-ge-SET_WORDS : goal.returns-then-i-ge-SET_WORDS
-returns-then-i-ge-SET_WORDS c =
-    let args = c.args in
-    let g = args in
-    let i : ℕ = g.bound / word_bits in
-    least-none g.sets.now g.k g.bound i (omega arith) (clear_start g.sets.now g.k g.bound)
-
 pub returns-then-m-ne0 : goal.returns-then-m-ne0
 returns-then-m-ne0 c =
     let args = c.args in

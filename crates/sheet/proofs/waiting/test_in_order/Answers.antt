@@ -1,21 +1,9 @@
 use native.Mathlib.Omega.{arith}
-use Rattle.sheet.proofs.Tests.{count_start, count_most, count-more, count_fewer, count_same, count_left, count_many, count-leaves, count-right}
+use Rattle.sheet.proofs.Tests.{count_start, count_fewer, count_same, count_left, count_many, count-leaves, count-right}
 use Rattle.sheet.proofs.waiting.test_in_order.Goals as goal
 
 pub loop-i-init : goal.loop-i-init
 loop-i-init c = (omega arith, omega arith, omega arith, count_start _)
-
-pub loop-i-preserved-then-most-waiting : goal.loop-i-preserved-then-most-waiting
-loop-i-preserved-then-most-waiting c =
-    let if1 = c.if-node-lt-CAT_NODE in
-    let loop = c.loop-i in
-    (omega arith, omega arith, omega arith, count_most loop.invariant.3 (omega arith) if1.true c.leaf_of-leaves.result c.leaf_of-leaves.ensures.0 c.if-most-waiting.true)
-
-pub loop-i-preserved-else-most-waiting : goal.loop-i-preserved-else-most-waiting
-loop-i-preserved-else-most-waiting c =
-    let if1 = c.if-node-lt-CAT_NODE in
-    let loop = c.loop-i in
-    (omega arith, omega arith, omega arith, count-more loop.invariant.3 (omega arith) if1.true c.leaf_of-leaves.result c.leaf_of-leaves.ensures.0 c.if-most-waiting.false)
 
 pub loop-i-preserved-then-node-lt-STAR_NODE : goal.loop-i-preserved-then-node-lt-STAR_NODE
 loop-i-preserved-then-node-lt-STAR_NODE c =
