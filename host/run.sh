@@ -5,7 +5,7 @@
 # --long: a much longer comparison, by a seed from the clock. --seed: the first seed of the random inputs (1 otherwise); a
 # failed round prints its own.
 #
-# The archive is x86-64. On an aarch64 machine everything is built for x86-64 with Debian's packages and run by qemu.
+# The archive is x86-64, and made on such a machine. On an aarch64 machine everything is built for x86-64 with Debian's packages and run by qemu.
 # What is missing is installed with apt-get; nothing is skipped.
 set -euo pipefail
 

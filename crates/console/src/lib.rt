@@ -89,7 +89,8 @@ fn place_for<W: Write>(out: &mut W, page: &[u8], at: &mut usize) -> io::Result<u
 
 // One byte; the place goes on to the one after it.
 fn put_byte<W: Write>(out: &mut W, page: &mut [u8], at: &mut usize, byte: u8) -> io::Result<()>
-    ensures told { OnOk result (0 < length page.old → Appends (told (W.contents out.old) page.old at.old) (told (W.contents out.new) page.new at.new) (byte ∷ [])) }
+    ensures told { OnOk result (0 < length page.old
+        → Appends (told (W.contents out.old) page.old at.old) (told (W.contents out.new) page.new at.new) (byte ∷ [])) }
     ensures lost { OnErr result (length page.old < at.new) }
     ensures refused { length page.old < at.old → IsErr result × (out.new ≡ out.old) }
 {
@@ -112,7 +113,8 @@ pub fn close<W: Write>(out: &mut W, page: &[u8], at: usize) -> io::Result<()>
 }
 
 pub fn put<W: Write>(out: &mut W, page: &mut [u8], at: &mut usize, bytes: &[u8]) -> io::Result<()>
-    ensures told { OnOk result (0 < length page.old → Appends (told (W.contents out.old) page.old at.old) (told (W.contents out.new) page.new at.new) bytes.now) }
+    ensures told { OnOk result (0 < length page.old
+        → Appends (told (W.contents out.old) page.old at.old) (told (W.contents out.new) page.new at.new) bytes.now) }
     ensures lost { OnErr result (length page.old < at.new) }
     ensures refused { length page.old < at.old → out.new ≡ out.old }
 {
@@ -123,7 +125,8 @@ pub fn put<W: Write>(out: &mut W, page: &mut [u8], at: &mut usize, bytes: &[u8])
 }
 
 pub fn put_number<W: Write>(out: &mut W, page: &mut [u8], at: &mut usize, n: u64) -> io::Result<()>
-    ensures told { OnOk result (0 < length page.old → Appends (told (W.contents out.old) page.old at.old) (told (W.contents out.new) page.new at.new) (decimal n)) }
+    ensures told { OnOk result (0 < length page.old
+        → Appends (told (W.contents out.old) page.old at.old) (told (W.contents out.new) page.new at.new) (decimal n)) }
     ensures lost { OnErr result (length page.old < at.new) }
     ensures refused { length page.old < at.old → out.new ≡ out.old }
 {
