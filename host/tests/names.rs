@@ -47,24 +47,28 @@ fn the_matcher_has_the_headers_bounds() {
     }
 }
 
-/// Every number that crates/rules names has the header's word, and those that refuse a text are all there.
+/// A variant's name as the header spells it: `TextLong` is `TEXT_LONG`.
+fn spelled(variant: &str) -> String {
+    let mut word = String::new();
+    for letter in variant.chars() {
+        if letter.is_ascii_uppercase() && !word.is_empty() {
+            word.push('_');
+        }
+        word.push(letter.to_ascii_uppercase());
+    }
+    word
+}
+
+/// The library's constants and the variants of its faults have the header's words and numbers, and none is missing.
 #[test]
 fn the_library_has_the_headers_words() {
     let rules = text("../crates/rules/src/lib.rt");
-    let mut words = named(&rules, "pub const ", ": usize = ", ";");
-    words.retain(|name, value| {
-        !name.ends_with("_LIMIT") && !name.ends_with("_SIZE") && (10..=33).contains(value)
-    });
-    let header = header_numbers();
-    for (name, value) in &words {
-        assert_eq!(header.get(name), Some(value), "{}", name);
+    let mut words = named(&rules, "pub const ", ": u64 = ", ";");
+    for source in [rules, text("../crates/sheet/src/lib.rt")] {
+        let variants = named(&source, "    ", " = ", ",");
+        words.extend(variants.iter().map(|(name, value)| (spelled(name), *value)));
     }
-    for (name, value) in header
-        .iter()
-        .filter(|(_, value)| (10..=19).contains(*value))
-    {
-        assert_eq!(words.get(name), Some(value), "{}", name);
-    }
+    assert_eq!(words, header_numbers());
 }
 
 /// The header's version is that of this package and of the newest release in CHANGELOG.md.

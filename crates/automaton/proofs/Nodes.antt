@@ -1,20 +1,23 @@
 -- The walk over the node bytes: what is left of them, and what waits.
-use mathlib.Core.Path.{◌≡◌, refl, ap, sym, ◌∙◌}
-use mathlib.Core.Bool.{Bool, true, false, ◌||◌}
+use mathlib.Core.Path.{◌≡◌, refl, ap, ◌∙◌, subst}
+use mathlib.Core.Bool.{false}
 use mathlib.Core.Option.{some}
 use mathlib.Core.List.{List, [], ◌∷◌, map}
 use Prim.Native.Nat.{ℕ, zero, suc, ◌+◌, ◌-◌, ◌<◌, ◌≤◌}
 use native.Mathlib.Numerals.{add-one}
 use native.Mathlib.Omega.{arith}
-use lib.ListN.{length, get_or, drop, length-drop, length-map, drop_of_length-le}
+use lib.ListN.{length, get_or, drop, length-drop, length-map}
 use lib.Seq.{drop-cons}
 use Rattle.rules.specs.Limits.{leaf_limit, node_limit, waiting_limit}
 use Rattle.rules.proofs.Grounds.{some_eq, no_some}
-use Rattle.language.specs.Tree.{Tree, leaf, empty, cat, alt, star, size}
 use Rattle.language.specs.Follow.{follow}
+use Rattle.language.specs.Tree.{Tree, leaf, empty, cat, alt, star, size}
 use Rattle.sheet.specs.Nodes.{Node, a_leaf, an_empty, a_cat, a_union, a_star, no_node, node_of, build}
+use Rattle.bits.specs.declared.Set.{Set}
 use Rattle.bits.specs.Sets.{set_bits, Empty}
-use Rattle.automaton.specs.Walk.{Held, follow_all, State}
+use Rattle.automaton.specs.declared.Fragment.{Fragment}
+use Rattle.automaton.specs.Walk.{FragmentOf, State}
+use Rattle.automaton.proofs.Steps.{held_length, LinkedBy, alt_state, cat_state, star_state}
 
 -- the leaves of the waiting trees
 abbrev total : List (Tree ℕ) → ℕ
@@ -40,33 +43,29 @@ room p (a_star ∷ ns) [] t e = no_some e
 room p (a_star ∷ ns) (u ∷ ts) t e = let h = room p ns (star u ∷ ts) t e in record { deep = omega (arith, h.deep); wide = omega (arith, h.wide) }
 room p (no_node ∷ ns) ts t e = no_some e
 
--- of the nodes s those before `at` are read, top trees wait, and p is the next position
-pub record Going (s : List ℕ) (at top p : ℕ) (n f g : List ℕ) : Type 0 where
+-- of the nodes s those before `at` are read, the trees of fs wait, and p is the next position
+pub record Going (s : List ℕ) (at p : ℕ) (n : List Set) (fs : List Fragment) : Type 0 where
   pub tree : Tree ℕ
   pub meant : build 1 (map node_of s) [] ≡ some (tree ∷ [])
   pub trees : List (Tree ℕ)
   pub left : build p (map node_of (drop at s)) trees ≡ some (tree ∷ [])
   pub few : length s ≤ node_limit
   pub small : size tree ≤ leaf_limit
-  pub within : at ≤ length s
-  pub depth : length trees ≡ top
   pub read : length trees ≤ at
   pub next : p ≡ 1 + total trees
-  pub state : State n f g trees
+  pub state : State n fs trees
 
-pub start : (s n f g : List ℕ) (t : Tree ℕ) → build 1 (map node_of s) [] ≡ some (t ∷ []) → size t ≤ leaf_limit → length s ≤ node_limit → Empty n → Going s 0 0 1 n f g
-start s n f g t e small few z = record {
+pub start : (s : List ℕ) (n : List Set) (fs : List Fragment) (t : Tree ℕ) → build 1 (map node_of s) [] ≡ some (t ∷ []) → size t ≤ leaf_limit → length s ≤ node_limit → Empty n → fs ≡ [] → Going s 0 1 n fs
+start s n fs t e small few z none = record {
   tree = t;
   meant = e;
   trees = [];
   left = e;
   few = few;
   small = small;
-  within = omega arith;
-  depth = refl;
   read = omega arith;
   next = refl;
-  state = record { held = tt; linked = λ p q. z (suc p) q };
+  state = record { held = rw none tt; linked = λ p q. z (suc p) q };
 }
 
 -- a node that takes two trees found them, and one that takes one
@@ -102,17 +101,7 @@ take-star (suc (suc (suc (suc zero)))) p ns [] t h e = no_some e
 take-star (suc (suc (suc (suc zero)))) p ns (r ∷ ts) t h e = record { r = r; rest = ts; were = refl; after = e }
 take-star (suc (suc (suc (suc (suc b))))) p ns ts t h e = no_some e
 
--- a node byte that is none of the other four
-pub is_star : (b : ℕ) → (b ≡ 0 → ⊥) → (b ≡ 1 → ⊥) → (b ≡ 2 → ⊥) → (b ≡ 3 → ⊥) → 4 ≤ b
-is_star b no-leaf no-empty no-cat no-union = omega arith
-
-or-alt : (a b c : Bool) → (a || (b || c)) ≡ ((b || a) || c)
-or-alt true true c = refl
-or-alt true false c = refl
-or-alt false true c = refl
-or-alt false false c = refl
-
-module _ {s : List ℕ} {at top p : ℕ} {n f g : List ℕ} (w : Going s at top p n f g) where
+module _ {s : List ℕ} {at p : ℕ} {n : List Set} {fs : List Fragment} (w : Going s at p n fs) where
   -- the nodes after the one at `at`
   abbrev rest : List Node
   rest = map node_of (drop (at + 1) s)
@@ -120,10 +109,13 @@ module _ {s : List ℕ} {at top p : ℕ} {n f g : List ℕ} (w : Going s at top 
   rest-length : length rest ≡ length s - (at + 1)
   rest-length = length-map (drop (at + 1) s) node_of ∙ length-drop (at + 1) s
 
-  pub not_deep : top ≤ waiting_limit
-  not_deep =
+  depth : length fs ≡ length w.trees
+  depth = held_length fs w.trees w.state.held
+
+  pub not_deep : at ≤ length s → length fs ≤ waiting_limit
+  not_deep h =
       let r = room p (map node_of (drop at s)) w.trees w.tree w.left in
-      omega (arith, r.deep, length-map (drop at s) node_of, length-drop at s, w.depth, w.read, w.few, w.within)
+      omega (arith, r.deep, length-map (drop at s) node_of, length-drop at s, depth, w.read, w.few)
 
   module _ (h : at < length s) where
     opened : (b : ℕ) → get_or s at 0 ≡ b → build p (node_of b ∷ rest) w.trees ≡ some (w.tree ∷ [])
@@ -131,94 +123,72 @@ module _ {s : List ℕ} {at top p : ℕ} {n f g : List ℕ} (w : Going s at top 
 
     -- one more waits
     module _ (q : ℕ) (t : Tree ℕ) (left : build q rest (t ∷ w.trees) ≡ some (w.tree ∷ [])) where
-      grown : top < waiting_limit
-      grown = let r = room q rest (t ∷ w.trees) w.tree left in omega (arith, r.deep, rest-length, w.depth, w.read, w.few)
+      grown : length fs < waiting_limit
+      grown = let r = room q rest (t ∷ w.trees) w.tree left in omega (arith, r.deep, rest-length, depth, w.read, w.few)
 
-      grow : q ≡ p + size t → (f' g' : List ℕ) → ((ts : List (Tree ℕ)) → length ts ≡ top → Held f g ts → Held f' g' (t ∷ ts))
-          → ((a b : ℕ) → follow t a b ≡ false) → Going s (at + 1) (top + 1) q n f' g'
-      grow e f' g' x z = record {
+      grow : q ≡ p + size t → (f : Fragment) → FragmentOf t f → ((a b : ℕ) → follow t a b ≡ false) → Going s (at + 1) q n (f ∷ fs)
+      grow e f x z = record {
         tree = w.tree;
         meant = w.meant;
         trees = t ∷ w.trees;
         left = left;
         few = w.few;
         small = w.small;
-        within = omega arith;
-        depth = omega (arith, w.depth);
         read = omega (arith, w.read);
         next = omega (arith, w.next);
-        state = record { held = x w.trees w.depth w.state.held; linked = λ a b. w.state.linked a b ∙ rw (z (suc a) b) refl };
+        state = record { held = (x, w.state.held); linked = λ a b. w.state.linked a b ∙ rw (z (suc a) b) refl };
       }
 
-    pub leaf-fits : get_or s at 0 ≡ 0 → (top < waiting_limit) × (1 ≤ p) × (p < set_bits)
+    pub leaf-fits : get_or s at 0 ≡ 0 → (length fs < waiting_limit) × (1 ≤ p) × (p < set_bits)
     leaf-fits e =
         let r = room (suc p) rest (leaf p ∷ w.trees) w.tree (opened 0 e) in
         let d = grown (suc p) (leaf p) (opened 0 e) in
         omega (arith, r.wide, w.next, w.small)
 
-    pub leaf_turn : get_or s at 0 ≡ 0 → (f' g' : List ℕ) → ((ts : List (Tree ℕ)) → length ts ≡ top → Held f g ts → Held f' g' (leaf p ∷ ts)) → Going s (at + 1) (top + 1) (p + 1) n f' g'
-    leaf_turn e f' g' x = rw (add-one p) (grow (suc p) (leaf p) (opened 0 e) (omega arith) f' g' x (λ a b. refl))
+    pub leaf_turn : get_or s at 0 ≡ 0 → (f : Fragment) → FragmentOf (leaf p) f → Going s (at + 1) (p + 1) n (f ∷ fs)
+    leaf_turn e f x = rw (add-one p) (grow (suc p) (leaf p) (opened 0 e) (omega arith) f x (λ a b. refl))
 
-    pub empty-fits : get_or s at 0 ≡ 1 → top < waiting_limit
+    pub empty-fits : get_or s at 0 ≡ 1 → length fs < waiting_limit
     empty-fits e = grown p empty (opened 1 e)
 
-    pub empty_turn : get_or s at 0 ≡ 1 → (f' g' : List ℕ) → ((ts : List (Tree ℕ)) → length ts ≡ top → Held f g ts → Held f' g' (empty ∷ ts)) → Going s (at + 1) (top + 1) p n f' g'
-    empty_turn e f' g' x = grow p empty (opened 1 e) (omega arith) f' g' x (λ a b. refl)
+    pub empty_turn : get_or s at 0 ≡ 1 → (f : Fragment) → FragmentOf empty f → Going s (at + 1) p n (f ∷ fs)
+    empty_turn e f x = grow p empty (opened 1 e) (omega arith) f x (λ a b. refl)
 
     -- two become one
     module _ (make : Tree ℕ → Tree ℕ → Tree ℕ) (sizes : (r u : Tree ℕ) → size (make r u) ≡ size r + size u) (o : TakenTwo make p rest w.trees w.tree) where
-      two_fit : 2 ≤ top
-      two_fit = omega (arith, ap length o.were, w.depth)
-
-      two_turn : (n' f' g' : List ℕ) → ((r u : Tree ℕ) (ts : List (Tree ℕ)) → length ts ≡ top - 1 - 1 → State n f g (u ∷ r ∷ ts) → State n' f' g' (make r u ∷ ts))
-          → Going s (at + 1) (top - 1) p n' f' g'
-      two_turn n' f' g' x = record {
+      two_turn : (n' : List Set) (fs' : List Fragment) → (State n fs (o.u ∷ o.r ∷ o.rest) → State n' fs' (make o.r o.u ∷ o.rest)) → Going s (at + 1) p n' fs'
+      two_turn n' fs' x = record {
         tree = w.tree;
         meant = w.meant;
         trees = make o.r o.u ∷ o.rest;
         left = o.after;
         few = w.few;
         small = w.small;
-        within = omega arith;
-        depth = omega (arith, ap length o.were, w.depth);
         read = omega (arith, ap length o.were, w.read);
         next = omega (arith, ap total o.were, w.next, sizes o.r o.u);
-        state = x o.r o.u o.rest (omega (arith, ap length o.were, w.depth)) (rw o.were at w.state);
+        state = x (rw o.were at w.state);
       }
 
-    taken_cat : get_or s at 0 ≡ 2 → TakenTwo cat p rest w.trees w.tree
-    taken_cat e = take-cat p rest w.trees w.tree (opened 2 e)
+    module _ {a b : Fragment} {one two : List Fragment} (x : fs ≡ b ∷ one) (y : one ≡ a ∷ two) where
+      both : (r t : Tree ℕ) (ts : List (Tree ℕ)) → State n fs (t ∷ r ∷ ts) → State n (b ∷ a ∷ two) (t ∷ r ∷ ts)
+      both r t ts = subst (λ (l : List Fragment). State n l (t ∷ r ∷ ts)) (x ∙ ap (λ (l : List Fragment). b ∷ l) y)
 
-    taken_alt : get_or s at 0 ≡ 3 → TakenTwo alt p rest w.trees w.tree
-    taken_alt e = take-alt p rest w.trees w.tree (opened 3 e)
+      pub cat_turn : {n' : List Set} {f : Fragment} → get_or s at 0 ≡ 2 → LinkedBy n n' a.stops b.firsts
+          → ((r t : Tree ℕ) → FragmentOf r a → FragmentOf t b → FragmentOf (cat r t) f) → Going s (at + 1) p n' (f ∷ two)
+      cat_turn {n'} {f} e l g =
+          let o = take-cat p rest w.trees w.tree (opened 2 e) in
+          two_turn cat (λ r u. refl) o n' (f ∷ two) (λ st. cat_state n a b f two o.r o.u o.rest (both o.r o.u o.rest st) n' l (g o.r o.u))
 
-    taken_star : 4 ≤ get_or s at 0 → TakenOne p rest w.trees w.tree
-    taken_star b = take-star (get_or s at 0) p rest w.trees w.tree b (opened (get_or s at 0) refl)
+      pub alt_turn : {f : Fragment} → get_or s at 0 ≡ 3 → ((r t : Tree ℕ) → FragmentOf r a → FragmentOf t b → FragmentOf (alt r t) f) → Going s (at + 1) p n (f ∷ two)
+      alt_turn {f} e g =
+          let o = take-alt p rest w.trees w.tree (opened 3 e) in
+          two_turn alt (λ r u. refl) o n (f ∷ two) (λ st. alt_state n a b f two o.r o.u o.rest (both o.r o.u o.rest st) (g o.r o.u))
 
-    pub cat-fits : get_or s at 0 ≡ 2 → 2 ≤ top
-    cat-fits e = two_fit cat (λ r u. refl) (taken_cat e)
-
-    pub alt-fits : get_or s at 0 ≡ 3 → 2 ≤ top
-    alt-fits e = two_fit alt (λ r u. refl) (taken_alt e)
-
-    pub star-fits : 4 ≤ get_or s at 0 → 1 ≤ top
-    star-fits b = omega (arith, ap length (taken_star b).were, w.depth)
-
-    pub cat_turn : get_or s at 0 ≡ 2 → (n' f' g' : List ℕ)
-        → ((r u : Tree ℕ) (ts : List (Tree ℕ)) → length ts ≡ top - 1 - 1 → State n f g (u ∷ r ∷ ts) → State n' f' g' (cat r u ∷ ts)) → Going s (at + 1) (top - 1) p n' f' g'
-    cat_turn e = two_turn cat (λ r u. refl) (taken_cat e)
-
-    pub alt_turn : get_or s at 0 ≡ 3 → (f' g' : List ℕ)
-        → ((r u : Tree ℕ) (ts : List (Tree ℕ)) → length ts ≡ top - 1 - 1 → Held f g (u ∷ r ∷ ts) → Held f' g' (alt r u ∷ ts)) → Going s (at + 1) (top - 1) p n f' g'
-    alt_turn e f' g' x =
-        two_turn alt (λ r u. refl) (taken_alt e) n f' g'
-        (λ r u ts d st. record { held = x r u ts d st.held; linked = λ a b. st.linked a b ∙ or-alt (follow u (suc a) b) (follow r (suc a) b) (follow_all ts (suc a) b) })
-
-    pub star_turn : 4 ≤ get_or s at 0 → (n' g' : List ℕ)
-        → ((r : Tree ℕ) (ts : List (Tree ℕ)) → length ts ≡ top - 1 → State n f g (r ∷ ts) → State n' f g' (star r ∷ ts)) → Going s (at + 1) top p n' f g'
-    star_turn b n' g' x = go (taken_star b)
+    pub star_turn : {n' : List Set} {a f : Fragment} {one : List Fragment} → fs ≡ a ∷ one → 4 ≤ get_or s at 0 → LinkedBy n n' a.stops a.firsts
+        → ((r : Tree ℕ) → FragmentOf r a → FragmentOf (star r) f) → Going s (at + 1) p n' (f ∷ one)
+    star_turn {n'} {a} {f} {one} x e l g = go (take-star (get_or s at 0) p rest w.trees w.tree e (opened (get_or s at 0) refl))
       where
-        go : TakenOne p rest w.trees w.tree → Going s (at + 1) top p n' f g'
+        go : TakenOne p rest w.trees w.tree → Going s (at + 1) p n' (f ∷ one)
         go o = record {
           tree = w.tree;
           meant = w.meant;
@@ -226,16 +196,7 @@ module _ {s : List ℕ} {at top p : ℕ} {n f g : List ℕ} (w : Going s at top 
           left = o.after;
           few = w.few;
           small = w.small;
-          within = omega arith;
-          depth = omega (arith, ap length o.were, w.depth);
           read = omega (arith, ap length o.were, w.read);
           next = omega (arith, ap total o.were, w.next);
-          state = x o.r o.rest (omega (arith, ap length o.were, w.depth)) (rw o.were at w.state);
+          state = star_state n n' a f one o.r o.rest l (g o.r) (subst (λ (l : List Fragment). State n l (o.r ∷ o.rest)) x (rw o.were at w.state));
         }
-
-  -- all nodes are read
-  pub finish : length s ≤ at → (t : Tree ℕ) → build 1 (map node_of s) [] ≡ some (t ∷ []) → State n f g (t ∷ [])
-  finish z t e =
-      let lone : w.trees ≡ w.tree ∷ [] = some_eq (rw (drop_of_length-le s {i = at} z) at w.left) in
-      let same : w.tree ∷ [] ≡ t ∷ [] = some_eq (sym w.meant ∙ e) in
-      rw (← same, ← lone) w.state

@@ -1,173 +1,228 @@
 // From an accepted sheet to the tables of its positions: what may follow what, where a word may end, which positions take a byte.
 #![tactic(auto)]
 
-ghost use Rattle.std.specs.Prelude.{◌≡◌, List, [], ◌∷◌, map, ℕ, ◌+◌, ◌*◌, ◌≤◌, ◌<◌, length};
-ghost use Rattle.std.proofs.Math.Option.{none, some};
+ghost use Rattle.std.specs.Prelude.{◌≡◌, List, [], ◌∷◌, map, ℕ, ◌+◌, ◌≤◌, ◌<◌, length, reverse, take};
+ghost use Rattle.std.proofs.Math.Option.{some};
 ghost use Rattle.rules.specs.Limits.{leaf_limit, node_limit, waiting_limit};
 ghost use Rattle.language.specs.Tree.{Tree, leaf, empty, cat, alt, star, size};
 ghost use Rattle.language.specs.Reading.{Pattern};
 ghost use Rattle.sheet.specs.Nodes.{node_of, build};
 ghost use Rattle.sheet.specs.Layout.{leaf_count};
 ghost use Rattle.sheet.specs.Stands.{stands_for};
-ghost use Rattle.sheet.specs.Refusals.{sheet_refusal};
-ghost use Rattle.bits.specs.Sets.{set_words, set_bits, Empty};
-ghost use Rattle.automaton.specs.Tables.{follow_words, letter_sets, letter_words, letter_of, Tables};
-ghost use Rattle.automaton.specs.Walk.{stack_words, Held, State, Reached, Closed, LettersTo};
+ghost use Rattle.bits.specs.Sets.{set_bits, member, has, Empty};
+ghost use Rattle.automaton.specs.Tables.{letter_sets, letter_of, TablesOf};
+ghost use Rattle.automaton.specs.Walk.{FragmentOf, State, LettersTo};
 
-use buffers::wide;
-use sheet::{CAT_NODE, EMPTY_NODE, LEAF_NODE, UNION_NODE};
+use bits::Set;
+use sheet::{Node, Sheet};
+use std::marker::Model;
 
 // A set for each byte up to the highest literal.
-const LETTER_SETS: usize = rules::HIGHEST_BYTE as usize + 1;
+pub const LETTER_SETS: usize = rules::HIGHEST_BYTE as usize + 1;
 
-// The words of the tables: a set for each position and the start, and the sets of the letters.
-pub const FOLLOW_WORDS: usize = bits::SET_WORDS * bits::SET_BITS;
-
-pub const LETTER_WORDS: usize = bits::SET_WORDS * LETTER_SETS;
-
-// A set for each subtree that may wait.
-const STACK_WORDS: usize = bits::SET_WORDS * rules::WAITING_LIMIT;
-
-// A leaf on top of k others.
-fn put_leaf(firsts: &mut [u64], stops: &mut [u64], k: usize, p: usize)
-    requires k_lt_waiting_limit { (k < waiting_limit) × (1 ≤ p) × (p < set_bits) }
-    requires stack_words_in_bounds { (stack_words ≤ length firsts.old) × (stack_words ≤ length stops.old) }
-    ensures { (ts : List (Tree ℕ)) → length ts ≡ k → Held firsts.old stops.old ts → Held firsts.new stops.new (leaf p ∷ ts) }
-{
-    bits::single(firsts, k, p);
-    bits::single(stops, k, p);
+// What a subtree begins with, and where a word of it may end: 0 stands for a word that ends at once.
+#[derive(Clone, Copy)]
+struct Fragment {
+    firsts: Set,
+    stops: Set,
 }
 
-// The empty word on top of k others.
-fn put_empty(firsts: &mut [u64], stops: &mut [u64], k: usize)
-    requires k_lt_waiting_limit { k < waiting_limit }
-    requires stack_words_in_bounds { (stack_words ≤ length firsts.old) × (stack_words ≤ length stops.old) }
-    ensures { (ts : List (Tree ℕ)) → length ts ≡ k → Held firsts.old stops.old ts → Held firsts.new stops.new (empty ∷ ts) }
-{
-    bits::clear(firsts, k);
-    bits::single(stops, k, 0);
-}
-
-// The subtrees at k and k + 1 become their union.
-fn put_union(firsts: &mut [u64], stops: &mut [u64], k: usize)
-    requires k_bound { k + 1 < waiting_limit }
-    requires stack_words_in_bounds { (stack_words ≤ length firsts.old) × (stack_words ≤ length stops.old) }
-    ensures { (r t : Tree ℕ) (ts : List (Tree ℕ)) → length ts ≡ k → Held firsts.old stops.old (t ∷ r ∷ ts) → Held firsts.new stops.new (alt r t ∷ ts) }
-{
-    let right = k + 1;
-    bits::join_within(firsts, k, right);
-    bits::join_within(stops, k, right);
-}
-
-// The first positions of a concatenation: those of its right side too, if its left side may be empty.
-fn reach(firsts: &mut [u64], stops: &[u64], k: usize)
-    requires k_bound { k + 1 < waiting_limit }
-    requires stack_words_in_bounds { (stack_words ≤ length firsts.old) × (stack_words ≤ length stops.now) }
-    ensures { Reached firsts.old firsts.new stops.now k }
-{
-    if !bits::has_at(stops, k, 0) {
-        return;
-    }
-    bits::join_within(firsts, k, k + 1);
-}
-
-// The stops of a concatenation: those of its left side too, if its right side may be empty.
-fn close(stops: &mut [u64], k: usize)
-    requires { (k + 1 < waiting_limit) × (stack_words ≤ length stops.old) }
-    ensures { Closed stops.old stops.new k }
-{
-    if bits::has_at(stops, k + 1, 0) {
-        bits::drop_start(stops, k + 1);
-        bits::join_within(stops, k, k + 1);
-        return;
-    }
-    bits::copy_within(stops, k, k + 1);
-}
-
-// The subtrees at k and k + 1 become their concatenation.
-fn put_cat(follow: &mut [u64], firsts: &mut [u64], stops: &mut [u64], k: usize)
-    requires k_bound { (k + 1 < waiting_limit) × (follow_words ≤ length follow.old) }
-    requires stack_words_in_bounds { (stack_words ≤ length firsts.old) × (stack_words ≤ length stops.old) }
-    ensures { (r t : Tree ℕ) (ts : List (Tree ℕ)) → length ts ≡ k → State follow.old firsts.old stops.old (t ∷ r ∷ ts) → State follow.new firsts.new stops.new (cat r t ∷ ts) }
-{
-    bits::link(follow, stops, k, firsts, k + 1);
-    reach(firsts, stops, k);
-    close(stops, k);
-}
-
-// The subtree at k becomes its star.
-fn put_star(follow: &mut [u64], firsts: &[u64], stops: &mut [u64], k: usize)
-    requires k_lt_waiting_limit { (k < waiting_limit) × (follow_words ≤ length follow.old) }
-    requires stack_words_in_bounds { (stack_words ≤ length firsts.now) × (stack_words ≤ length stops.old) }
-    ensures { (r : Tree ℕ) (ts : List (Tree ℕ)) → length ts ≡ k → State follow.old firsts.now stops.old (r ∷ ts) → State follow.new firsts.now stops.new (star r ∷ ts) }
-{
-    bits::link(follow, stops, k, firsts, k);
-    bits::insert(stops, k, 0);
-}
-
-// Which set of the letters has the positions that take a byte.
-pub fn letter(b: u8) -> usize
-    ensures { (result ≡ letter_of b) × (result < letter_sets) }
-{
-    let at = wide(b);
-    if at < LETTER_SETS { at } else { 0 }
-}
-
-// Reads node bytes that build one tree; it is all that waits at the end. A node that is none of the other four is a star.
-fn walk(nodes: &[u8], follow: &mut [u64], firsts: &mut [u64], stops: &mut [u64])
-    requires by_index { (t : Tree ℕ) × (build 1 (map node_of nodes.now) [] ≡ some (t ∷ [])) × (size t ≤ leaf_limit) }
-    requires nodes_len_bound { (length nodes.now ≤ node_limit) × Empty follow.old }
-    requires follow_words_in_bounds { (follow_words ≤ length follow.old) × (stack_words ≤ length firsts.old) × (stack_words ≤ length stops.old) }
-    ensures { (t : Tree ℕ) → build 1 (map node_of nodes.now) [] ≡ some (t ∷ []) → State follow.new firsts.new stops.new (t ∷ []) }
-{
-    let mut at = 0;
-    let mut top = 0;
-    let mut p = 1;
-    while at < nodes.len() {
-        let node = nodes[at];
-        at += 1;
-        if node == LEAF_NODE {
-            put_leaf(firsts, stops, top, p);
-            top += 1;
-            p += 1;
-        } else if node == EMPTY_NODE {
-            put_empty(firsts, stops, top);
-            top += 1;
-        } else if node == CAT_NODE {
-            top -= 1;
-            put_cat(follow, firsts, stops, top - 1);
-        } else if node == UNION_NODE {
-            top -= 1;
-            put_union(firsts, stops, top - 1);
-        } else {
-            put_star(follow, firsts, stops, top - 1);
+impl Fragment {
+    // Of no subtree: what a place of the stack has before it is used.
+    fn none() -> Fragment {
+        Fragment {
+            firsts: Set::new(),
+            stops: Set::new(),
         }
     }
+
+    // The leaf at the position p.
+    fn leaf(p: usize) -> Fragment
+        requires { (1 ≤ p) × (p < set_bits) }
+        ensures { FragmentOf (leaf p) result }
+    {
+        let alone = Set::of(p);
+        Fragment {
+            firsts: alone,
+            stops: alone,
+        }
+    }
+
+    // The empty word.
+    fn empty() -> Fragment
+        ensures { FragmentOf empty result }
+    {
+        Fragment {
+            firsts: Set::new(),
+            stops: Set::of(0),
+        }
+    }
+
+    // The union of two.
+    fn or(self, right: Fragment) -> Fragment
+        ensures { (r t : Tree ℕ) → FragmentOf r self → FragmentOf t right → FragmentOf (alt r t) result }
+    {
+        Fragment {
+            firsts: self.firsts.union(right.firsts),
+            stops: self.stops.union(right.stops),
+        }
+    }
+
+    // The concatenation of two.
+    fn then(self, right: Fragment) -> Fragment
+        ensures { (r t : Tree ℕ) → FragmentOf r self → FragmentOf t right → FragmentOf (cat r t) result }
+    {
+        let firsts = if self.stops.has(0) {
+            self.firsts.union(right.firsts)
+        } else {
+            self.firsts
+        };
+        let mut stops = right.stops;
+        if stops.has(0) {
+            stops.drop_start();
+            stops = stops.union(self.stops);
+        }
+        Fragment { firsts, stops }
+    }
+
+    // The star.
+    fn starred(mut self) -> Fragment
+        ensures { (r : Tree ℕ) → FragmentOf r self → FragmentOf (star r) result }
+    {
+        self.stops.insert(0);
+        self
+    }
+}
+
+// The fragments of the subtrees that wait, in a buffer that is lent, the last made on top.
+#[derive(Drop)]
+struct Waiting<'a> {
+    fragments: &'a mut [Fragment],
+    top: usize,
+}
+
+impl<'a> Model for Waiting<'a> {
+    ghost use Rattle.std.specs.Prelude.{◌≡◌, List, reverse, take, length, ◌≤◌};
+    ghost use Rattle.rules.specs.Limits.{waiting_limit};
+    ghost use Rattle.automaton.specs.declared.Fragment.{Fragment};
+
+    ghost Value = { List Fragment };
+
+    ghost view = { λ w. reverse (take w.top w.fragments.now) };
+
+    ghost invariant = { λ w. (w.top ≤ waiting_limit) × (length w.fragments.now ≡ waiting_limit) };
+}
+
+impl<'a> Waiting<'a> {
+    // None waits yet.
+    fn on(fragments: &'a mut [Fragment]) -> Waiting<'a>
+        requires { length fragments.old ≡ waiting_limit }
+        ensures { result ≡ [] }
+    {
+        Waiting { fragments, top: 0 }
+    }
+
+    // One more waits.
+    fn push(&mut self, fragment: Fragment)
+        requires { length self.old < waiting_limit }
+        ensures { self.new ≡ fragment ∷ self.old }
+    {
+        self.fragments[self.top] = fragment;
+        self.top += 1;
+    }
+
+    // The last made no longer waits.
+    fn pop(&mut self) -> Fragment
+        requires { 0 < length self.old }
+        ensures { self.old ≡ result ∷ self.new }
+    {
+        self.top -= 1;
+        self.fragments[self.top]
+    }
+}
+
+// Reads node bytes that build one tree; its fragment is what waits at the end.
+fn walk(nodes: &[u8], follow: &mut [Set]) -> Fragment
+    requires one_tree { (t : Tree ℕ) × (build 1 (map node_of nodes.now) [] ≡ some (t ∷ [])) × (size t ≤ leaf_limit) }
+    requires few { length nodes.now ≤ node_limit }
+    requires table { (set_bits ≤ length follow.old) × Empty follow.old }
+    ensures { (t : Tree ℕ) → build 1 (map node_of nodes.now) [] ≡ some (t ∷ []) → State follow.new (result ∷ []) (t ∷ []) }
+{
+    let mut fragments = [Fragment::none(); rules::WAITING_LIMIT];
+    let mut waiting = Waiting::on(&mut fragments);
+    let mut p = 1;
+    for node in nodes {
+        match Node::from(*node) {
+            Node::Leaf => {
+                waiting.push(Fragment::leaf(p));
+                p += 1;
+            }
+            Node::Empty => waiting.push(Fragment::empty()),
+            Node::Cat => {
+                let right = waiting.pop();
+                let left = waiting.pop();
+                bits::link(follow, left.stops, right.firsts);
+                waiting.push(left.then(right));
+            }
+            Node::Union => {
+                let right = waiting.pop();
+                let left = waiting.pop();
+                waiting.push(left.or(right));
+            }
+            Node::Star => {
+                let inner = waiting.pop();
+                bits::link(follow, inner.stops, inner.firsts);
+                waiting.push(inner.starred());
+            }
+        }
+    }
+    waiting.pop()
 }
 
 // Puts each position into the set of the byte that its leaf takes.
-fn put_letters(sheet: &[u8], letters: &mut [u64])
-    requires { (sheet_refusal sheet.now ≡ none) × Empty letters.old × (letter_words ≤ length letters.old) }
-    ensures { LettersTo sheet.now letters.new (leaf_count sheet.now) }
+fn put_letters(sheet: Sheet, letters: &mut [Set])
+    requires { Empty letters.old × (letter_sets ≤ length letters.old) }
+    ensures { LettersTo sheet.entry.bytes.now letters.new (leaf_count sheet.entry.bytes.now) }
 {
-    let n = sheet::leaf_count(sheet);
-    let mut p = 0;
-    while p < n {
-        p += 1;
-        bits::insert(letters, wide(sheet::byte_at(sheet, p)), p);
+    let n = sheet::leaf_count(sheet.bytes);
+    for i in 0..n {
+        let p = i + 1;
+        letters[usize::from(sheet.byte_at(p))].insert(p);
     }
 }
 
-// The tables of an accepted sheet, into slices that are lent empty; what `stop` had does not matter.
-pub fn tables(sheet: &[u8], follow: &mut [u64], stop: &mut [u64], letters: &mut [u64])
-    requires sheet_value { (sheet_refusal sheet.now ≡ none) × Empty follow.old × Empty letters.old }
-    requires follow_words_in_bounds { (follow_words ≤ length follow.old) × (set_words ≤ length stop.old) × (letter_words ≤ length letters.old) }
-    ensures { (P : Pattern) → stands_for sheet.now ≡ some P → Tables P follow.new stop.new letters.new }
-{
-    let mut firsts = [0u64; STACK_WORDS];
-    let mut stops = [0u64; STACK_WORDS];
-    walk(sheet::nodes(sheet), follow, &mut firsts, &mut stops);
-    bits::copy_set(follow, 0, &firsts, 0);
-    bits::copy_set(stop, 0, &stops, 0);
-    put_letters(sheet, letters);
+// The tables of the positions of a sheet.
+#[derive(Drop)]
+pub struct Tables {
+    // Of each position, and of the start, the positions that may come next.
+    pub follow: [Set; bits::SET_BITS],
+    // The positions after which a word may end.
+    pub stops: Set,
+    // Of each byte up to the highest literal, the positions that take it.
+    pub letters: [Set; LETTER_SETS],
+}
+
+impl Tables {
+    pub fn of(sheet: Sheet) -> Tables
+        ensures { (P : Pattern) → stands_for sheet.entry.bytes.now ≡ some P → TablesOf P result }
+    {
+        let mut tables = Tables {
+            follow: [Set::new(); bits::SET_BITS],
+            stops: Set::new(),
+            letters: [Set::new(); LETTER_SETS],
+        };
+        let whole = walk(sheet::nodes(sheet.bytes), &mut tables.follow);
+        tables.follow[0] = whole.firsts;
+        tables.stops = whole.stops;
+        put_letters(sheet, &mut tables.letters);
+        tables
+    }
+
+    // The positions that take a byte. Bytes above the highest literal share the set of 0, which no leaf takes either.
+    pub fn taking(&self, byte: u8) -> Set
+        ensures { (q : ℕ) → member result q ≡ has self.now.letters (letter_of byte) q }
+    {
+        let own = self.letters.get(usize::from(byte));
+        *own.unwrap_or(&self.letters[0])
+    }
 }

@@ -1,7 +1,7 @@
 pub mod Bits
-pub mod Stores
-pub mod Shares
 pub mod Members
+pub mod Shares
 pub mod Least
 pub mod Ones
 pub mod Bytes
+pub mod Tables

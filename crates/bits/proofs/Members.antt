@@ -1,103 +1,147 @@
--- Loops over the members of a word, from the lowest: what is done and what is left.
+-- A set by its words: what a store to a word does to the members, and the members of a union and of an intersection.
 use mathlib.Core.Path.{◌≡◌, refl, ap, sym, ◌∙◌}
 use mathlib.Core.Logic.{by_cases}
-use mathlib.Core.Bool.{Bool, true, false, ◌||◌, ◌&&◌, and-true, and-false, or-false}
-use mathlib.Core.List.{List}
-use Prim.Native.Nat.{ℕ, ◌+◌, ◌*◌, ◌%◌, ◌^◌, ◌-◌, ◌<◌, ◌≤◌}
+use mathlib.Core.Bool.{Bool, true, false, cond, not, ◌||◌, ◌&&◌, and-true, or-false}
+use mathlib.Core.List.{[], ◌∷◌}
+use Prim.Native.Nat.{ℕ, zero, suc, ◌+◌, ◌*◌, ◌/◌, ◌%◌, ◌^◌, ◌<◌, ◌≤◌}
 use native.Mathlib.Decide.{dec_lt, ℕ_discrete}
+use native.Mathlib.Nat.{one-mul}
 use native.Mathlib.Omega.{arith}
 use lib.Bits.{bit_or, bit_and}
-use lib.ListN.{get_or}
-use lib.Dec.{eqb, ltb, leb}
-use borrow.Author.Tests.{eq-eqb, ne_eqb, le-leb, lt-leb, lt-ltb, le-ltb}
-use Rattle.bits.specs.Sets.{word_bits, set_words, bit, has}
-use Rattle.bits.specs.Words.{in_word}
-use Rattle.bits.proofs.Bits.{bit-or, bit_zero, bit_pow, no-bit, Lowest}
-use Rattle.bits.proofs.Stores.{word_at, has_out, one_shifted}
+use lib.Pow.{shl_exact}
+use lib.ListN.{length, get_or, set}
+use lib.Seq.{get_or-set_same, get_or-set_other}
+use lib.Dec.{eqb, ltb}
+use borrow.Author.Tests.{eq-eqb, ne_eqb, lt-ltb, le-ltb, ltb-true}
+use Rattle.rules.proofs.Truth.{and_true_left}
+use Rattle.bits.specs.declared.Set.{Set}
+use Rattle.bits.specs.Sets.{word_bits, set_words, set_bits, bit, empty_set, member}
+use Rattle.bits.proofs.Bits.{bit-or, bit_and_lem, bit_zero, bit_pow, bit_test, bit_even_mask}
 
--- ---- a set into the set of each member
+-- ---- a set by its words
 
-link_in : (base m i p : ℕ) (s t : Bool) → Lowest word_bits m i → p ≡ base + i → ((s || t) || in_word base (bit_and m (m - 1)) p && t) ≡ (s || in_word base m p && t)
-unfolding in_word
-link_in base m i p s t v e =
-    let f : p - base ≡ i = omega arith in
-    rw (le-leb base p (omega arith), f, v.without i, v.set, eq-eqb i i refl) (or-false (s || t))
+pub member_in : (s : Set) (x : ℕ) → x < set_bits → member s x ≡ bit (get_or s.words (x / word_bits) 0) (x % word_bits)
+unfolding member
+member_in s x h = rw (lt-ltb x set_bits h) refl
 
-link_out : (base m i p : ℕ) → Lowest word_bits m i → (p ≡ base + i → ⊥) → in_word base (bit_and m (m - 1)) p ≡ in_word base m p
-unfolding in_word
-link_out base m i p v n =
-    by_cases (dec_lt p base)
-    (λ (h : p < base). rw (lt-leb base p h) refl)
-    (λ (h : ¬ (p < base)). rw (v.without (p - base), ne_eqb (p - base) i (λ z. n (omega arith)), and-true) refl)
+pub member_out : (s : Set) (x : ℕ) → set_bits ≤ x → member s x ≡ false
+unfolding member
+member_out s x h = rw (le-ltb x set_bits h) refl
 
-pub link_turn : (xs ys : List ℕ) (base m i : ℕ) (t : ℕ → Bool) → Lowest word_bits m i → ((p x : ℕ) → has ys p x ≡ (has xs p x || eqb p (base + i) && t x))
-    → (p x : ℕ) → (has ys p x || in_word base (bit_and m (m - 1)) p && t x) ≡ (has xs p x || in_word base m p && t x)
-link_turn xs ys base m i t v h p x =
-    by_cases (ℕ_discrete p (base + i))
-    (λ (e : p ≡ base + i). rw (h p x, eq-eqb p (base + i) e) (link_in base m i p (has xs p x) (t x) v e))
-    (λ (n : ¬ (p ≡ base + i)). rw (h p x, ne_eqb p (base + i) n, or-false, link_out base m i p v n) refl)
+-- bit x % 64 of word i is the member x of word i
+pub word_at : (s : Set) (i x : ℕ) → i < set_words → x / word_bits ≡ i → bit (get_or s.words i 0) (x % word_bits) ≡ member s x
+word_at s i x h e = sym (member_in s x (omega arith) ∙ rw e refl)
 
-pub link_end : (base p : ℕ) (s t : Bool) → (s || in_word base 0 p && t) ≡ s
-unfolding in_word
-link_end base p s t = rw (bit_zero (p - base), and-false, or-false) refl
+pub member_below : (s : Set) (x : ℕ) → member s x ≡ true → x < set_bits
+unfolding member
+member_below s x e = ltb-true x set_bits (and_true_left (ltb x set_bits) _ e)
 
--- ---- word after word: the members below 64 i are done
+-- the code's test of a member
+pub tested : (s : Set) (q : ℕ) → q < set_bits → eqb (bit_and (get_or s.words (q / word_bits) 0 / 2 ^ (q % word_bits)) 1) 1 ≡ member s q
+tested s q h = bit_test (get_or s.words (q / word_bits) 0) (q % word_bits) ∙ sym (member_in s q h)
 
-spread : (s i j t : Bool) → ((s || i && t) || j && t) ≡ (s || (i || j) && t)
-spread true i j t = refl
-spread false true true true = refl
-spread false true true false = refl
-spread false true false true = refl
-spread false true false false = refl
-spread false false j t = refl
+-- what holds of each bit of each word holds of each member
+pub by_words : (s : Set) (f : ℕ → Bool) → ((x : ℕ) → set_bits ≤ x → f x ≡ false)
+    → ((i x : ℕ) → i < set_words → x / word_bits ≡ i → bit (get_or s.words i 0) (x % word_bits) ≡ f x) → (x : ℕ) → member s x ≡ f x
+by_words s f out h x =
+    by_cases (dec_lt x set_bits)
+    (λ (b : x < set_bits). member_in s x b ∙ h (x / word_bits) x (omega arith) refl)
+    (λ (b : ¬ (x < set_bits)). member_out s x (omega arith) ∙ sym (out x (omega arith)))
 
-next_word : (xs : List ℕ) (k i p : ℕ) → i < set_words → get_or xs (set_words * k + i) 0 < 2 ^ word_bits
-    → (ltb p (word_bits * i) && has xs k p || in_word (word_bits * i) (get_or xs (set_words * k + i) 0) p) ≡ (ltb p (word_bits * (i + 1)) && has xs k p)
-unfolding in_word
-next_word xs k i p l s =
-    by_cases (dec_lt p (word_bits * i))
-    (λ (h : p < word_bits * i). rw (lt-ltb p (word_bits * i) h, lt-leb (word_bits * i) p h, lt-ltb p (word_bits * (i + 1)) (omega arith)) (or-false (has xs k p)))
-    (λ (h : ¬ (p < word_bits * i)).
-    by_cases (dec_lt p (word_bits * (i + 1)))
-    (λ (g : p < word_bits * (i + 1)).
-    let e : p - word_bits * i ≡ p % word_bits = omega arith in
-    rw (le-ltb p (word_bits * i) (omega arith), le-leb (word_bits * i) p (omega arith), lt-ltb p (word_bits * (i + 1)) g, e) (word_at xs k i p l (omega arith)))
-    (λ (g : ¬ (p < word_bits * (i + 1))).
-    rw (le-ltb p (word_bits * i) (omega arith), le-ltb p (word_bits * (i + 1)) (omega arith), no-bit (get_or xs (set_words * k + i) 0) (p - word_bits * i) word_bits s (omega arith)) (and-false (leb (word_bits * i) p))))
+-- ---- the empty set
 
-pub words_start : (p : ℕ) (s a t : Bool) → s ≡ (s || (ltb p (word_bits * 0) && a) && t)
-words_start p s a t = rw (le-ltb p (word_bits * 0) (omega arith)) (sym (or-false s))
+zero_at : (i : ℕ) → get_or {A = ℕ} (0 ∷ 0 ∷ []) i 0 ≡ 0
+zero_at zero = refl
+zero_at (suc zero) = refl
+zero_at (suc (suc i)) = refl
 
-pub words_turn : (xs ys zs from : List ℕ) (k i : ℕ) (t : ℕ → Bool) → i < set_words → get_or from (set_words * k + i) 0 < 2 ^ word_bits
-    → ((p x : ℕ) → has ys p x ≡ (has xs p x || (ltb p (word_bits * i) && has from k p) && t x))
-    → ((p x : ℕ) → has zs p x ≡ (has ys p x || in_word (word_bits * i) (get_or from (set_words * k + i) 0) p && t x))
-    → (p x : ℕ) → has zs p x ≡ (has xs p x || (ltb p (word_bits * (i + 1)) && has from k p) && t x)
-words_turn xs ys zs from k i t l s f g p x =
-    g p x ∙ rw (f p x) (spread (has xs p x) (ltb p (word_bits * i) && has from k p) _ (t x)) ∙ ap (λ (u : Bool). has xs p x || u && t x) (next_word from k i p l s)
+pub no_member : (x : ℕ) → member record { words = 0 ∷ 0 ∷ [] } x ≡ false
+no_member x = by_words record { words = 0 ∷ 0 ∷ [] } (λ x. false) (λ x h. refl) (λ i x h e. rw (zero_at i) (bit_zero (x % word_bits))) x
 
-pub words_end : (from : List ℕ) (k i p : ℕ) → set_words ≤ i → (ltb p (word_bits * i) && has from k p) ≡ has from k p
-words_end from k i p h =
-    by_cases (dec_lt p (word_bits * i))
-    (λ (l : p < word_bits * i). rw (lt-ltb p (word_bits * i) l) refl)
-    (λ (l : ¬ (p < word_bits * i)). rw (has_out from k p (omega arith)) (and-false (ltb p (word_bits * i))))
+pub none_empty : (x : ℕ) → member empty_set x ≡ false
+none_empty = by_words empty_set (λ x. false) (λ x h. refl) (λ i x h e. bit_zero (x % word_bits))
 
--- ---- the members that pass a test
+-- ---- a store
 
-pub kept_here : (i b : ℕ) (t : Bool) → i < word_bits → t ≡ true → bit (1 * 2 ^ i % 2 ^ word_bits) b ≡ (eqb b i && t)
-kept_here i b t h e = rw (e, one_shifted i h, and-true) (bit_pow i b)
+module _ (s : Set) (i v : ℕ) (l : i < set_words) (h : i < length s.words) where
+  abbrev after : Set
+  after = record { words = set s.words i v }
 
-pub kept_not : (i b : ℕ) (t : Bool) → t ≡ false → bit 0 b ≡ (eqb b i && t)
-kept_not i b t e = rw (e, and-false) (bit_zero b)
+  -- word i is v now
+  pub stored : (x : ℕ) → member after x ≡ cond (eqb (x / word_bits) i) (bit v (x % word_bits)) (member s x)
+  stored = by_words after (λ x. cond (eqb (x / word_bits) i) (bit v (x % word_bits)) (member s x)) out here
+    where
+      out : (x : ℕ) → set_bits ≤ x → cond (eqb (x / word_bits) i) (bit v (x % word_bits)) (member s x) ≡ false
+      out x b = rw (ne_eqb (x / word_bits) i (λ z. omega arith)) (member_out s x b)
 
-pub kept_start : (b : ℕ) (t : Bool) → (bit 0 b || t) ≡ t
-kept_start b t = rw (bit_zero b) refl
+      here : (j x : ℕ) → j < set_words → x / word_bits ≡ j → bit (get_or (set s.words i v) j 0) (x % word_bits) ≡ cond (eqb (x / word_bits) i) (bit v (x % word_bits)) (member s x)
+      here j x k e =
+          by_cases (ℕ_discrete j i)
+          (λ (d : j ≡ i). rw (eq-eqb (x / word_bits) i (e ∙ d), d, get_or-set_same s.words i v 0 h) refl)
+          (λ (d : ¬ (j ≡ i)). rw (ne_eqb (x / word_bits) i (λ z. d (sym e ∙ z)), get_or-set_other s.words i j v 0 d) (word_at s j x k e))
 
-pub kept_turn : (r u m i : ℕ) (f : ℕ → Bool) → Lowest word_bits m i → ((b : ℕ) → bit u b ≡ (eqb b i && f i))
-    → (b : ℕ) → (bit (bit_or r u) b || bit (bit_and m (m - 1)) b && f b) ≡ (bit r b || bit m b && f b)
-kept_turn r u m i f v h b =
-    by_cases (ℕ_discrete b i)
-    (λ (e : b ≡ i). rw (bit-or r u b, h b, v.without b, e, eq-eqb i i refl, v.set) (or-false (bit r i || f i)))
-    (λ (n : ¬ (b ≡ i)). rw (bit-or r u b, h b, v.without b, ne_eqb b i n, or-false, and-true) refl)
+-- ---- one member in, and the start out
 
-pub kept_end : (b : ℕ) (s t : Bool) → (s || bit 0 b && t) ≡ s
-kept_end b s t = rw (bit_zero b, or-false) refl
+-- bit b of word i is the member 64 i + b
+pub same-bit : (x i b : ℕ) → b < word_bits → x / word_bits ≡ i → eqb (x % word_bits) b ≡ eqb x (word_bits * i + b)
+same-bit x i b l e =
+    by_cases (ℕ_discrete (x % word_bits) b)
+    (λ (d : x % word_bits ≡ b). rw (eq-eqb (x % word_bits) b d) (sym (eq-eqb x (word_bits * i + b) (omega arith))))
+    (λ (d : ¬ (x % word_bits ≡ b)). rw (ne_eqb (x % word_bits) b d) (sym (ne_eqb x (word_bits * i + b) (λ z. d (omega arith)))))
+
+one_shifted : (b : ℕ) → b < word_bits → 1 * 2 ^ b % 2 ^ word_bits ≡ 2 ^ b
+one_shifted b h = shl_exact {a = 1} 1 b word_bits (omega arith) (omega arith) ∙ one-mul (2 ^ b)
+
+-- bit b of word i goes in
+pub put_in : (s : Set) (i b : ℕ) → i < set_words → b < word_bits → length s.words ≡ set_words → (x : ℕ)
+    → member record { words = set s.words i (bit_or (get_or s.words i 0) (1 * 2 ^ b % 2 ^ word_bits)) } x ≡ (member s x || eqb x (word_bits * i + b))
+put_in s i b l k h x =
+    stored s i _ l (omega arith) x ∙ rw (one_shifted b k) (
+    by_cases (ℕ_discrete (x / word_bits) i)
+    (λ (d : x / word_bits ≡ i). rw (eq-eqb (x / word_bits) i d, bit-or, bit_pow, word_at s i x l d, same-bit x i b k d) refl)
+    (λ (d : ¬ (x / word_bits ≡ i)). rw (ne_eqb (x / word_bits) i d, ne_eqb x (word_bits * i + b) (λ z. d (omega arith)), or-false) refl))
+
+pub inserted : (s : Set) (q : ℕ) → q < set_bits → length s.words ≡ set_words → (x : ℕ)
+    → member record { words = set s.words (q / word_bits) (bit_or (get_or s.words (q / word_bits) 0) (1 * 2 ^ (q % word_bits) % 2 ^ word_bits)) } x ≡ (member s x || eqb x q)
+inserted s q l h x = let e : word_bits * (q / word_bits) + q % word_bits ≡ q = omega arith in rw e at (put_in s (q / word_bits) (q % word_bits) (omega arith) (omega arith) h x)
+
+-- only word q / 64 has a bit
+abbrev pub Alone : ℕ → ℕ → ℕ → Type 0
+Alone q i w = w ≡ cond (eqb i (q / word_bits)) (1 * 2 ^ (q % word_bits) % 2 ^ word_bits) 0
+
+pub alone : (s : Set) (q : ℕ) → q < set_bits → ((i : ℕ) → i < set_words → Alone q i (get_or s.words i 0)) → (x : ℕ) → member s x ≡ eqb x q
+alone s q l h = by_words s (λ x. eqb x q) (λ x b. ne_eqb x q (λ z. omega arith)) go
+  where
+    go : (i x : ℕ) → i < set_words → x / word_bits ≡ i → bit (get_or s.words i 0) (x % word_bits) ≡ eqb x q
+    go i x b e =
+        let n : word_bits * (q / word_bits) + q % word_bits ≡ q = omega arith in
+        rw (h i b) (
+        by_cases (ℕ_discrete i (q / word_bits))
+        (λ (d : i ≡ q / word_bits). rw (eq-eqb i (q / word_bits) d, one_shifted (q % word_bits) (omega arith), bit_pow)
+        (rw n at (same-bit x (q / word_bits) (q % word_bits) (omega arith) (e ∙ d))))
+        (λ (d : ¬ (i ≡ q / word_bits)). rw (ne_eqb i (q / word_bits) d, bit_zero) (sym (ne_eqb x q (λ z. d (sym e ∙ ap (λ (m : ℕ). m / word_bits) z))))))
+
+pub start_dropped : (s : Set) → length s.words ≡ set_words → (x : ℕ)
+    → member record { words = set s.words 0 (bit_and (get_or s.words 0 0) 18446744073709551614) } x ≡ (member s x && not (eqb x 0))
+start_dropped s h x =
+    stored s 0 _ (omega arith) (omega arith) x ∙
+    by_cases (ℕ_discrete (x / word_bits) 0)
+    (λ (d : x / word_bits ≡ 0).
+    rw (eq-eqb (x / word_bits) 0 d, bit_and_lem, word_at s 0 x (omega arith) d, bit_even_mask (x % word_bits) (omega arith))
+    (ap (λ (t : Bool). member s x && not t) (same-bit x 0 0 (omega arith) d)))
+    (λ (d : ¬ (x / word_bits ≡ 0)). rw (ne_eqb (x / word_bits) 0 d, ne_eqb x 0 (λ z. omega arith), and-true) refl)
+
+-- ---- two sets, word by word
+
+module _ (s t r : Set) where
+  pub united : ((i : ℕ) → i < set_words → get_or r.words i 0 ≡ bit_or (get_or s.words i 0) (get_or t.words i 0)) → (x : ℕ) → member r x ≡ (member s x || member t x)
+  united h =
+      by_words r (λ x. member s x || member t x)
+      (λ x l. rw (member_out s x l) (member_out t x l))
+      (λ i x l e. rw (h i l, bit-or, word_at s i x l e, word_at t i x l e) refl)
+
+  pub shared : ((i : ℕ) → i < set_words → get_or r.words i 0 ≡ bit_and (get_or s.words i 0) (get_or t.words i 0)) → (x : ℕ) → member r x ≡ (member s x && member t x)
+  shared h =
+      by_words r (λ x. member s x && member t x)
+      (λ x l. rw (member_out s x l) refl)
+      (λ i x l e. rw (h i l, bit_and_lem, word_at s i x l e, word_at t i x l e) refl)

@@ -1,15 +1,15 @@
 -- The count of a set's members, word after word.
 use mathlib.Core.Path.{◌≡◌, refl, ap, sym, ◌∙◌}
 use mathlib.Core.Bool.{Bool, cond}
-use mathlib.Core.List.{List}
 use Prim.Native.Nat.{ℕ, zero, suc, ◌+◌, ◌*◌, ◌/◌, ◌%◌, ◌^◌, ◌<◌}
 use native.Mathlib.Omega.{arith}
 use lib.Count.{ones, ones_step}
 use lib.ListN.{get_or}
 use lib.Dec.{eqb}
-use Rattle.bits.specs.Sets.{word_bits, set_words, bit, has, count_below, size_of}
+use Rattle.bits.specs.declared.Set.{Set}
+use Rattle.bits.specs.Sets.{word_bits, set_words, bit, member, count_below, size_of}
 use Rattle.bits.proofs.Bits.{bit-low, bit_up, half_lt}
-use Rattle.bits.proofs.Stores.{word_at}
+use Rattle.bits.proofs.Members.{word_at}
 
 same_count : (f g : ℕ → Bool) (n : ℕ) → ((q : ℕ) → q < n → f q ≡ g q) → count_below f n ≡ count_below g n
 unfolding count_below
@@ -40,19 +40,21 @@ ones_count (suc d) m h =
     let s = same_count (λ b. bit m (1 + b)) (bit (m / 2)) d (λ b l. let z : 1 + b ≡ suc b = omega arith in rw z (bit_up m b)) in
     ones_step m ∙ rw (ones_count d (m / 2) (half_lt d m h)) (omega (arith, c, s, low_count m, ap (count_below (bit m)) e))
 
-pub count_start : (xs : List ℕ) (k : ℕ) → 0 ≡ count_below (has xs k) (word_bits * 0)
+pub count_start : (s : Set) → 0 ≡ count_below (member s) (word_bits * 0)
 unfolding count_below
-count_start xs k = refl
+count_start s = refl
 
-pub count_turn : (xs : List ℕ) (k i n : ℕ) → i < set_words → get_or xs (set_words * k + i) 0 < 2 ^ word_bits → n ≡ count_below (has xs k) (word_bits * i)
-    → n + ones (get_or xs (set_words * k + i) 0) ≡ count_below (has xs k) (word_bits * (i + 1))
-count_turn xs k i n l s e =
-    let w : ℕ = get_or xs (set_words * k + i) 0 in
+pub count_turn : (s : Set) (i n : ℕ) → i < set_words → get_or s.words i 0 < 2 ^ word_bits → n ≡ count_below (member s) (word_bits * i)
+    → n + ones (get_or s.words i 0) ≡ count_below (member s) (word_bits * (i + 1))
+count_turn s i n l f e =
+    let w : ℕ = get_or s.words i 0 in
     let d : word_bits * (i + 1) ≡ word_bits * i + word_bits = omega arith in
-    let c = count-after (has xs k) (word_bits * i) word_bits in
-    let h = same_count (bit w) (λ b. has xs k (word_bits * i + b)) word_bits (λ b g. let m : (word_bits * i + b) % word_bits ≡ b = omega arith in rw m at (word_at xs k i (word_bits * i + b) l (omega arith))) in
-    rw (d, c, e, ones_count word_bits w s, h) (omega arith)
+    let c = count-after (member s) (word_bits * i) word_bits in
+    let h = same_count (bit w) (λ b. member s (word_bits * i + b)) word_bits (λ b g. let m : (word_bits * i + b) % word_bits ≡ b = omega arith in rw m at (word_at s i (word_bits * i + b) l (omega arith))) in
+    rw (d, c, e, ones_count word_bits w f, h) (omega arith)
 
-pub count_end : (xs : List ℕ) (k i : ℕ) → i ≡ set_words → count_below (has xs k) (word_bits * i) ≡ size_of xs k
+pub count_end : (s : Set) (i : ℕ) → i ≡ set_words → count_below (member s) (word_bits * i) ≡ size_of s
 unfolding size_of
-count_end xs k i e = rw e refl
+count_end s i e = rw e refl
+
+pub ruleset counting = (count_start, count_end)

@@ -1,20 +1,17 @@
--- Whether two sets share a member: some number below a bound passes a test, and the words of the two sets have a bit in common.
+-- Whether two sets share a member.
 use mathlib.Core.Path.{◌≡◌, refl, sym, ◌∙◌}
 use mathlib.Core.Logic.{by_cases}
-use mathlib.Core.Bool.{Bool, true, false, true≢false, not, ◌||◌, ◌&&◌, or_comm, or-true}
-use mathlib.Core.List.{List}
+use mathlib.Core.Bool.{Bool, true, false, true≢false, ◌||◌, ◌&&◌, or-true}
 use Prim.Native.Nat.{ℕ, zero, suc, ◌+◌, ◌*◌, ◌/◌, ◌%◌, ◌^◌, ◌<◌}
 use native.Mathlib.Decide.{dec_lt, ℕ_discrete}
-use native.Mathlib.Numerals.{add-one}
 use native.Mathlib.Omega.{arith}
-use lib.Bits.{bit_or, bit_and}
+use lib.Bits.{bit_and}
 use lib.ListN.{get_or}
-use lib.Dec.{eqb}
-use borrow.Author.Tests.{eq-eqb, ne_eqb}
 use Rattle.rules.proofs.Truth.{and_true_left, and_true_right}
-use Rattle.bits.specs.Sets.{word_bits, set_words, set_bits, bit, has, some_below, share}
-use Rattle.bits.proofs.Bits.{bit_zero, bit-or, bit_and_lem, no-bit, some_bit}
-use Rattle.bits.proofs.Stores.{word_at, has_below}
+use Rattle.bits.specs.declared.Set.{Set}
+use Rattle.bits.specs.Sets.{word_bits, set_words, set_bits, bit, member, some_below, share}
+use Rattle.bits.proofs.Bits.{bit_zero, bit_and_lem, no-bit, some_bit}
+use Rattle.bits.proofs.Members.{word_at, member_below}
 
 -- ---- some number below n passes the test
 
@@ -42,59 +39,45 @@ some_out f (suc n) e = go (some_out f n) (f n) refl e
 
 -- ---- members in common
 
-pub share_in : (xs : List ℕ) (j : ℕ) (ys : List ℕ) (k q : ℕ) → has xs j q ≡ true → has ys k q ≡ true → share xs j ys k ≡ true
+pub share_in : (s t : Set) (q : ℕ) → member s q ≡ true → member t q ≡ true → share s t ≡ true
 unfolding share
-share_in xs j ys k q a b = some_in (λ q. has xs j q && has ys k q) set_bits q (has_below xs j q a) (rw (a, b) refl)
+share_in s t q a b = some_in (λ q. member s q && member t q) set_bits q (member_below s q a) (rw (a, b) refl)
 
-pub share_out : (xs : List ℕ) (j : ℕ) (ys : List ℕ) (k : ℕ) → share xs j ys k ≡ true → (q : ℕ) × ((has xs j q ≡ true) × (has ys k q ≡ true))
+pub share_out : (s t : Set) → share s t ≡ true → (q : ℕ) × ((member s q ≡ true) × (member t q ≡ true))
 unfolding share
-share_out xs j ys k e = let w = some_out (λ q. has xs j q && has ys k q) set_bits e in (w.at, (and_true_left (has xs j w.at) (has ys k w.at) w.passes, and_true_right (has xs j w.at) (has ys k w.at) w.passes))
+share_out s t e = let w = some_out (λ q. member s q && member t q) set_bits e in (w.at, (and_true_left (member s w.at) (member t w.at) w.passes, and_true_right (member s w.at) (member t w.at) w.passes))
 
--- ---- a walk over the words of both: what the words below i have in common
+-- ---- word by word
 
-module _ (xs : List ℕ) (j : ℕ) (ys : List ℕ) (k : ℕ) where
-  abbrev pub in_both : ℕ → ℕ → Bool
-  in_both b w = bit (get_or xs (set_words * j + w) 0) b && bit (get_or ys (set_words * k + w) 0) b
+pub meet-here : (s t : Set) (i : ℕ) → i < set_words → get_or s.words i 0 < 2 ^ word_bits → (bit_and (get_or s.words i 0) (get_or t.words i 0) ≡ 0 → ⊥) → true ≡ share s t
+meet-here s t i l f n = go (some_bit (bit_and (get_or s.words i 0) (get_or t.words i 0)) n)
+  where
+    go : (b : ℕ) × (bit (bit_and (get_or s.words i 0) (get_or t.words i 0)) b ≡ true) → true ≡ share s t
+    go (b, e) =
+        let both = sym (bit_and_lem (get_or s.words i 0) (get_or t.words i 0) b) ∙ e in
+        let left = and_true_left (bit (get_or s.words i 0) b) (bit (get_or t.words i 0) b) both in
+        let right = and_true_right (bit (get_or s.words i 0) b) (bit (get_or t.words i 0) b) both in
+        by_cases (dec_lt b word_bits)
+        (λ (h : b < word_bits).
+        let q : ℕ = word_bits * i + b in
+        let m : (word_bits * i + b) % word_bits ≡ b = omega arith in
+        sym (share_in s t (word_bits * i + b)
+        (sym (word_at s i (word_bits * i + b) l (omega arith)) ∙ rw m left)
+        (sym (word_at t i (word_bits * i + b) l (omega arith)) ∙ rw m right)))
+        (λ (h : ¬ (b < word_bits)). absurd (true≢false (sym left ∙ no-bit (get_or s.words i 0) b word_bits f (omega arith))))
 
-  pub both_start : (b : ℕ) → bit 0 b ≡ some_below (in_both b) 0
-  unfolding some_below
-  both_start b = bit_zero b
+pub meet-nowhere : (s t : Set) → ((i : ℕ) → i < set_words → bit_and (get_or s.words i 0) (get_or t.words i 0) ≡ 0) → false ≡ share s t
+meet-nowhere s t h = go (share s t) refl
+  where
+    go : (b : Bool) → share s t ≡ b → false ≡ b
+    go false e = refl
+    go true e =
+        let w = share_out s t e in
+        let l : w.0 < set_bits = member_below s w.0 w.1.0 in
+        let i : ℕ = w.0 / word_bits in
+        let both = bit_and_lem (get_or s.words (w.0 / word_bits) 0) (get_or t.words (w.0 / word_bits) 0) (w.0 % word_bits) in
+        absurd (true≢false
+        (sym (both ∙ rw (word_at s (w.0 / word_bits) w.0 (omega arith) refl, word_at t (w.0 / word_bits) w.0 (omega arith) refl, w.1.0, w.1.1) refl)
+        ∙ rw (h (w.0 / word_bits) (omega arith)) (bit_zero (w.0 % word_bits))))
 
-  pub both_turn : (u i : ℕ) → ((b : ℕ) → bit u b ≡ some_below (in_both b) i) → (b : ℕ)
-      → bit (bit_or u (bit_and (get_or xs (set_words * j + i) 0) (get_or ys (set_words * k + i) 0))) b ≡ some_below (in_both b) (i + 1)
-  unfolding some_below
-  both_turn u i h b = rw (add-one i, bit-or, bit_and_lem, h b) (or_comm (some_below (in_both b) i) (in_both b i))
-
-  in_both_lem : (w b : ℕ) → w < set_words → b < word_bits → in_both b w ≡ (has xs j (word_bits * w + b) && has ys k (word_bits * w + b))
-  in_both_lem w b h l =
-      let m : (word_bits * w + b) % word_bits ≡ b = omega arith in
-      rw (← word_at xs j w (word_bits * w + b) h (omega arith), ← word_at ys k w (word_bits * w + b) h (omega arith), m) refl
-
-  pub both_end : (u : ℕ) → u < 2 ^ word_bits → ((b : ℕ) → bit u b ≡ some_below (in_both b) set_words) → not (eqb u 0) ≡ share xs j ys k
-  both_end u s h =
-      by_cases (ℕ_discrete u 0)
-      (λ (e : u ≡ 0). rw (eq-eqb u 0 e) (sym (none e)))
-      (λ (n : ¬ (u ≡ 0)). rw (ne_eqb u 0 n) (sym (common (some_bit u n))))
-    where
-      seen : (q : ℕ) → has xs j q ≡ true → has ys k q ≡ true → bit u (q % word_bits) ≡ true
-      seen q a b =
-          h (q % word_bits)
-          ∙ some_in (in_both (q % word_bits)) set_words (q / word_bits) (omega (arith, has_below xs j q a))
-          (rw (word_at xs j (q / word_bits) q (omega (arith, has_below xs j q a)) refl, word_at ys k (q / word_bits) q (omega (arith, has_below xs j q a)) refl, a, b) refl)
-
-      none : u ≡ 0 → share xs j ys k ≡ false
-      none e = go (share xs j ys k) refl
-        where
-          go : (t : Bool) → share xs j ys k ≡ t → t ≡ false
-          go true z = let w = share_out xs j ys k z in absurd (true≢false (sym (seen w.0 w.1.0 w.1.1) ∙ rw e (bit_zero (w.0 % word_bits))))
-          go false z = refl
-
-      common : (b : ℕ) × (bit u b ≡ true) → share xs j ys k ≡ true
-      common (b, e) =
-          by_cases (dec_lt b word_bits)
-          (λ (l : b < word_bits).
-          let w = some_out (in_both b) set_words (sym (h b) ∙ e) in
-          let q : ℕ = word_bits * w.at + b in
-          let e = sym (in_both_lem w.at b w.below l) ∙ w.passes in
-          share_in xs j ys k q (and_true_left (has xs j q) (has ys k q) e) (and_true_right (has xs j q) (has ys k q) e))
-          (λ (l : ¬ (b < word_bits)). absurd (true≢false (sym e ∙ no-bit u b word_bits s (omega arith))))
+pub ruleset meeting = (meet-here, meet-nowhere)

@@ -1,267 +1,221 @@
-// Sets of positions as bits. Set k of a slice of words stands at its words SET_WORDS * k and on; a set by itself is set 0 of a slice.
+// Sets of positions as bits: machine words in tables and locals, bytes in a row of the work area.
 #![tactic(auto)]
 
-ghost use Rattle.std.specs.Prelude.{◌≡◌, ◌||◌, ◌&&◌, cond, false, not, ℕ, ◌+◌, ◌*◌, ◌/◌, ◌%◌, ◌^◌, ◌≤◌, ◌<◌, length, get_or, eqb};
-ghost use Rattle.std.specs.Int.Count.{count_trailing_zeros};
-ghost use Rattle.bits.specs.Sets.{word_bits, word_bytes, byte_bits, set_words, set_bits, set_bytes, bit, has, row_has, share, size_of, LeastFrom};
-ghost use Rattle.bits.specs.Words.{in_word, WordAt};
+ghost use Rattle.std.specs.Prelude.{◌≡◌, ◌||◌, ◌&&◌, false, not, MatchOption, ℕ, ◌+◌, ◌*◌, ◌/◌, ◌%◌, ◌^◌, ◌≤◌, ◌<◌, length, get_or, eqb};
+ghost use Rattle.bits.specs.Sets.{word_bits, word_bytes, byte_bits, set_words, set_bits, set_bytes, bit, empty_set, member, has, row_has, share, size_of, LeastFrom};
+ghost use Rattle.bits.specs.Words.{Lowest, LowestTaken, WordAt};
 
-pub const WORD_BITS: usize = 64;
+const WORD_BITS: usize = 64;
 
-pub const WORD_BYTES: usize = 8;
-
-const BYTE_BITS: usize = 8;
+const WORD_BYTES: usize = 8;
 
 // How many words a set has; specs/Sets.antt has the same number.
-pub const SET_WORDS: usize = 2;
+const SET_WORDS: usize = 2;
 
 // A set's members are below this.
 pub const SET_BITS: usize = WORD_BITS * SET_WORDS;
 
-// How many bytes of a row a set takes.
-pub const SET_BYTES: usize = WORD_BYTES * SET_WORDS;
-
-// Whether q is in set k.
-pub fn has_at(sets: &[u64], k: usize, q: usize) -> bool
-    requires { (set_words * (k + 1) ≤ length sets.now) × (q < set_bits) }
-    ensures { result ≡ has sets.now k q }
-{
-    sets[SET_WORDS * k + q / WORD_BITS] >> (q % WORD_BITS) & 1 == 1
+// A set of positions: the position q is bit q % 64 of word q / 64.
+#[derive(Clone, Copy, PartialEq, Eq, Debug)]
+pub struct Set {
+    pub words: [u64; SET_WORDS],
 }
 
-// Puts q into set k.
-pub fn insert(sets: &mut [u64], k: usize, q: usize)
-    requires { (set_words * (k + 1) ≤ length sets.old) × (q < set_bits) }
-    ensures { (p x : ℕ) → has sets.new p x ≡ (has sets.old p x || eqb p k && eqb x q) }
-{
-    let at = SET_WORDS * k + q / WORD_BITS;
-    sets[at] = sets[at] | 1 << (q % WORD_BITS);
-}
-
-// Takes everything out of set k.
-pub fn clear(sets: &mut [u64], k: usize)
-    requires { set_words * (k + 1) ≤ length sets.old }
-    ensures { (p x : ℕ) → has sets.new p x ≡ cond (eqb p k) false (has sets.old p x) }
-{
-    let mut i = 0;
-    while i < SET_WORDS {
-        let at = SET_WORDS * k + i;
-        sets[at] = 0;
-        i += 1;
-    }
-}
-
-// Makes q the only member of set k.
-pub fn single(sets: &mut [u64], k: usize, q: usize)
-    requires { (set_words * (k + 1) ≤ length sets.old) × (q < set_bits) }
-    ensures { (p x : ℕ) → has sets.new p x ≡ cond (eqb p k) (eqb x q) (has sets.old p x) }
-{
-    clear(sets, k);
-    let at = SET_WORDS * k + q / WORD_BITS;
-    sets[at] = 1 << (q % WORD_BITS);
-}
-
-// Makes set k of `to` what set j of `from` is.
-pub fn copy_set(to: &mut [u64], k: usize, from: &[u64], j: usize)
-    requires { (set_words * (k + 1) ≤ length to.old) × (set_words * (j + 1) ≤ length from.now) }
-    ensures { (p x : ℕ) → has to.new p x ≡ cond (eqb p k) (has from.now j x) (has to.old p x) }
-{
-    let mut i = 0;
-    while i < SET_WORDS {
-        let at = SET_WORDS * k + i;
-        to[at] = from[SET_WORDS * j + i];
-        i += 1;
-    }
-}
-
-// Puts all of set j of `from` into set k of `to`.
-pub fn join(to: &mut [u64], k: usize, from: &[u64], j: usize)
-    requires { (set_words * (k + 1) ≤ length to.old) × (set_words * (j + 1) ≤ length from.now) }
-    ensures { (p x : ℕ) → has to.new p x ≡ (has to.old p x || eqb p k && has from.now j x) }
-{
-    let mut i = 0;
-    while i < SET_WORDS {
-        let at = SET_WORDS * k + i;
-        to[at] = to[at] | from[SET_WORDS * j + i];
-        i += 1;
-    }
-}
-
-// Leaves in set k of `to` only what is in set j of `from`.
-pub fn intersect(to: &mut [u64], k: usize, from: &[u64], j: usize)
-    requires { (set_words * (k + 1) ≤ length to.old) × (set_words * (j + 1) ≤ length from.now) }
-    ensures { (p x : ℕ) → has to.new p x ≡ cond (eqb p k) (has to.old p x && has from.now j x) (has to.old p x) }
-{
-    let mut i = 0;
-    while i < SET_WORDS {
-        let at = SET_WORDS * k + i;
-        to[at] = to[at] & from[SET_WORDS * j + i];
-        i += 1;
-    }
-}
-
-// Makes set k what set j of the same slice is.
-pub fn copy_within(sets: &mut [u64], k: usize, j: usize)
-    requires { (set_words * (k + 1) ≤ length sets.old) × (set_words * (j + 1) ≤ length sets.old) }
-    ensures { (p x : ℕ) → has sets.new p x ≡ cond (eqb p k) (has sets.old j x) (has sets.old p x) }
-{
-    let mut i = 0;
-    while i < SET_WORDS {
-        let at = SET_WORDS * k + i;
-        sets[at] = sets[SET_WORDS * j + i];
-        i += 1;
-    }
-}
-
-// Puts all of set j of the same slice into set k.
-pub fn join_within(sets: &mut [u64], k: usize, j: usize)
-    requires { (set_words * (k + 1) ≤ length sets.old) × (set_words * (j + 1) ≤ length sets.old) }
-    ensures { (p x : ℕ) → has sets.new p x ≡ (has sets.old p x || eqb p k && has sets.old j x) }
-{
-    let mut i = 0;
-    while i < SET_WORDS {
-        let at = SET_WORDS * k + i;
-        sets[at] = sets[at] | sets[SET_WORDS * j + i];
-        i += 1;
-    }
-}
-
-// Takes the start out of set k.
-pub fn drop_start(sets: &mut [u64], k: usize)
-    requires { set_words * (k + 1) ≤ length sets.old }
-    ensures { (p x : ℕ) → has sets.new p x ≡ (has sets.old p x && not (eqb p k && eqb x 0)) }
-{
-    let at = SET_WORDS * k;
-    sets[at] = sets[at] - sets[at] % 2;
-}
-
-// Whether set j of `a` and set k of `b` share a member.
-pub fn meets(a: &[u64], j: usize, b: &[u64], k: usize) -> bool
-    requires { (set_words * (j + 1) ≤ length a.now) × (set_words * (k + 1) ≤ length b.now) }
-    ensures { result ≡ share a.now j b.now k }
-{
-    let mut both = 0;
-    let mut i = 0;
-    while i < SET_WORDS {
-        both = both | a[SET_WORDS * j + i] & b[SET_WORDS * k + i];
-        i += 1;
-    }
-    both != 0
-}
-
-// The lowest bit of a word that has one.
-fn lowest_bit(m: u64) -> usize
-    requires { 0 < m }
-    ensures { (result ≡ count_trailing_zeros word_bits m) × (result < word_bits) }
-{
-    u64::trailing_zeros(m) as usize
-}
-
-// Puts set j of `to` into the set of each member of the word `from`, whose bit 0 stands for `base`.
-fn link_word(table: &mut [u64], base: usize, from: u64, to: &[u64], j: usize)
-    requires { (base + word_bits ≤ set_bits) × (set_words * set_bits ≤ length table.old) × (set_words * (j + 1) ≤ length to.now) }
-    ensures { (p x : ℕ) → has table.new p x ≡ (has table.old p x || in_word base from p && has to.now j x) }
-{
-    let mut m = from;
-    while m != 0 {
-        let i = lowest_bit(m);
-        join(table, base + i, to, j);
-        m = m & (m - 1);
-    }
-}
-
-// Puts set j of `to` into the set of each member of set k of `from`.
-pub fn link(table: &mut [u64], from: &[u64], k: usize, to: &[u64], j: usize)
-    requires { (set_words * set_bits ≤ length table.old) × (set_words * (k + 1) ≤ length from.now) × (set_words * (j + 1) ≤ length to.now) }
-    ensures { (p x : ℕ) → has table.new p x ≡ (has table.old p x || has from.now k p && has to.now j x) }
-{
-    let mut i = 0;
-    while i < SET_WORDS {
-        link_word(table, WORD_BITS * i, from[SET_WORDS * k + i], to, j);
-        i += 1;
-    }
-}
-
-// Bit i if set p of `table` shares a member with set 0 of `other`, else nothing.
-fn kept_bit(table: &[u64], p: usize, other: &[u64], i: usize) -> u64
-    requires { (set_words * (p + 1) ≤ length table.now) × (set_words ≤ length other.now) × (i < word_bits) }
-    ensures { (b : ℕ) → bit result b ≡ (eqb b i && share table.now p other.now 0) }
-{
-    if meets(table, p, other, 0) { 1 << i } else { 0 }
-}
-
-// The members of the word `from`, whose bit 0 stands for `base`, whose sets in `table` share a member with set 0 of `other`.
-fn sift_word(from: u64, base: usize, table: &[u64], other: &[u64]) -> u64
-    requires { (base + word_bits ≤ set_bits) × (set_words * set_bits ≤ length table.now) × (set_words ≤ length other.now) }
-    ensures { (b : ℕ) → bit result b ≡ (bit from b && share table.now (base + b) other.now 0) }
-{
-    let mut kept = 0;
-    let mut m = from;
-    while m != 0 {
-        let i = lowest_bit(m);
-        kept = kept | kept_bit(table, base + i, other, i);
-        m = m & (m - 1);
-    }
-    kept
-}
-
-// Makes set 0 of `to` those members of set j of `from` whose own sets in `table` share a member with set 0 of `other`.
-pub fn sift(to: &mut [u64], from: &[u64], j: usize, table: &[u64], other: &[u64])
-    requires set_words_in_bounds { (set_words ≤ length to.old) × (set_words * (j + 1) ≤ length from.now) }
-    requires set_bits_in_bounds { (set_words * set_bits ≤ length table.now) × (set_words ≤ length other.now) }
-    ensures { (x : ℕ) → has to.new 0 x ≡ (has from.now j x && share table.now x other.now 0) }
-{
-    let mut i = 0;
-    while i < SET_WORDS {
-        to[i] = sift_word(from[SET_WORDS * j + i], WORD_BITS * i, table, other);
-        i += 1;
-    }
-}
-
-// The least member of set k from `bound` on; 0 if there is none.
-#[tactic(auto, using(crate::proofs::Least::beyond_all))]
-pub fn least_from(sets: &[u64], k: usize, bound: usize) -> usize
-    requires { set_words * (k + 1) ≤ length sets.now }
-    ensures { LeastFrom (has sets.now k) bound result }
-{
-    let mut i = bound / WORD_BITS;
-    if SET_WORDS <= i {
-        return 0;
-    }
-    let b = bound % WORD_BITS;
-    let m = sets[SET_WORDS * k + i] >> b << b;
-    if m != 0 {
-        return WORD_BITS * i + lowest_bit(m);
-    }
-    i += 1;
-    while i < SET_WORDS {
-        let w = sets[SET_WORDS * k + i];
-        if w != 0 {
-            return WORD_BITS * i + lowest_bit(w);
+impl Set {
+    // No position.
+    #[tactic(auto, using(crate::proofs::Members::no_member))]
+    pub fn new() -> Set
+        ensures { (x : ℕ) → member result x ≡ false }
+    {
+        Set {
+            words: [0; SET_WORDS],
         }
-        i += 1;
     }
-    0
+
+    // The position q alone. It tells its words apart by a test, so that they need not lie in memory.
+    #[tactic(auto, using(crate::proofs::Members::alone))]
+    pub fn of(q: usize) -> Set
+        requires { q < set_bits }
+        ensures { (x : ℕ) → member result x ≡ eqb x q }
+    {
+        let mut words = [0; SET_WORDS];
+        for i in 0..SET_WORDS {
+            if i == q / WORD_BITS {
+                words[i] = 1 << (q % WORD_BITS);
+            }
+        }
+        Set { words }
+    }
+
+    // Whether q is a member.
+    #[tactic(auto, using(crate::proofs::Members::tested))]
+    pub fn has(&self, q: usize) -> bool
+        requires { q < set_bits }
+        ensures { result ≡ member self.now q }
+    {
+        self.words[q / WORD_BITS] >> (q % WORD_BITS) & 1 == 1
+    }
+
+    // Puts q in.
+    #[tactic(auto, using(crate::proofs::Members::inserted))]
+    pub fn insert(&mut self, q: usize)
+        requires { q < set_bits }
+        ensures { (x : ℕ) → member self.new x ≡ (member self.old x || eqb x q) }
+    {
+        self.words[q / WORD_BITS] |= 1 << (q % WORD_BITS);
+    }
+
+    // Takes the start out.
+    #[tactic(auto, using(crate::proofs::Members::start_dropped))]
+    pub fn drop_start(&mut self)
+        ensures { (x : ℕ) → member self.new x ≡ (member self.old x && not (eqb x 0)) }
+    {
+        self.words[0] &= !1;
+    }
+
+    // The set whose words `op` makes of those of the two sets.
+    fn zip<F: Fn(u64, u64) -> u64>(self, other: Set, op: F) -> Set
+        requires { F.IsAlwaysCallable op }
+        ensures { (i : ℕ) → i < set_words → F.post op (get_or self.words i 0) (get_or other.words i 0) (get_or result.words i 0) }
+    {
+        let mut words = [0; SET_WORDS];
+        for i in 0..SET_WORDS {
+            words[i] = op(self.words[i], other.words[i]);
+        }
+        Set { words }
+    }
+
+    // The members of either.
+    #[tactic(auto, using(crate::proofs::Members::united))]
+    pub fn union(self, other: Set) -> Set
+        ensures { (x : ℕ) → member result x ≡ (member self x || member other x) }
+    {
+        self.zip(other, |a, b| a | b)
+    }
+
+    // The members of both.
+    #[tactic(auto, using(crate::proofs::Members::shared))]
+    pub fn intersection(self, other: Set) -> Set
+        ensures { (x : ℕ) → member result x ≡ (member self x && member other x) }
+    {
+        self.zip(other, |a, b| a & b)
+    }
+
+    // Whether the two share a member.
+    #[tactic(auto, using(crate::proofs::Shares::meeting))]
+    pub fn meets(self, other: Set) -> bool
+        ensures { result ≡ share self other }
+    {
+        for i in 0..SET_WORDS {
+            if self.words[i] & other.words[i] != 0 {
+                return true;
+            }
+        }
+        false
+    }
+
+    // The least member from `bound` on.
+    #[tactic(auto, using(crate::proofs::Least::least_nowhere))]
+    pub fn least_from(self, bound: usize) -> Option<usize>
+        ensures { LeastFrom (member self) bound result }
+    {
+        for i in bound / WORD_BITS..SET_WORDS {
+            let below = bound.saturating_sub(WORD_BITS * i);
+            if let Some(b) = lowest(self.words[i] >> below << below) {
+                return Some(WORD_BITS * i + b);
+            }
+        }
+        None
+    }
+
+    // How many members it has.
+    #[tactic(auto, using(crate::proofs::Ones::counting))]
+    pub fn count(self) -> usize
+        ensures { result ≡ size_of self }
+    {
+        let mut n = 0;
+        for word in self.words {
+            n += word.count_ones() as usize;
+        }
+        n
+    }
+
+    // The set at the front of a row.
+    #[tactic(auto, using(crate::proofs::Bytes::loaded))]
+    pub fn load(row: &[u8]) -> Set
+        requires { set_bytes ≤ length row.now }
+        ensures { (x : ℕ) → member result x ≡ row_has row.now x }
+    {
+        let mut words = [0; SET_WORDS];
+        for i in 0..SET_WORDS {
+            words[i] = get_word(row, WORD_BYTES * i);
+        }
+        Set { words }
+    }
+
+    // Writes the set to the front of a row.
+    #[tactic(auto, using(crate::proofs::Bytes::storing))]
+    pub fn store(self, row: &mut [u8])
+        requires { set_bytes ≤ length row.old }
+        ensures members { (x : ℕ) → row_has row.new x ≡ member self x }
+        ensures rest { (i : ℕ) → set_bytes ≤ i → get_or row.new i 0 ≡ get_or row.old i 0 }
+    {
+        for i in 0..SET_WORDS {
+            put_word(row, WORD_BYTES * i, self.words[i]);
+        }
+    }
 }
 
-// How many members set k has.
-pub fn count(sets: &[u64], k: usize) -> usize
-    requires { set_words * (k + 1) ≤ length sets.now }
-    ensures { result ≡ size_of sets.now k }
+// Puts all of `to` into the set of each member of `from`.
+pub fn link(table: &mut [Set], from: Set, to: Set)
+    requires { set_bits ≤ length table.old }
+    ensures { (p x : ℕ) → has table.new p x ≡ (has table.old p x || member from p && member to x) }
 {
-    let mut n = 0;
-    let mut i = 0;
-    while i < SET_WORDS {
-        n += u64::count_ones(sets[SET_WORDS * k + i]) as usize;
-        i += 1;
+    for i in 0..SET_WORDS {
+        let mut word = from.words[i];
+        while let Some(b) = take_lowest(&mut word) {
+            let q = WORD_BITS * i + b;
+            table[q] = table[q].union(to);
+        }
     }
-    n
 }
 
-fn wide(x: u8) -> u64
-    ensures { (result ≡ x) × (result < 2 ^ byte_bits) }
+// The members of `from` whose own sets in `table` share a member with `other`.
+pub fn sift(from: Set, table: &[Set], other: Set) -> Set
+    requires { set_bits ≤ length table.now }
+    ensures { (x : ℕ) → member result x ≡ (member from x && share (get_or table.now x empty_set) other) }
 {
-    x as u64
+    let mut words = [0; SET_WORDS];
+    for i in 0..SET_WORDS {
+        let mut word = from.words[i];
+        while let Some(b) = take_lowest(&mut word) {
+            if table[WORD_BITS * i + b].meets(other) {
+                words[i] |= 1 << b;
+            }
+        }
+    }
+    Set { words }
+}
+
+// Takes the lowest bit out of a word.
+fn take_lowest(word: &mut u64) -> Option<usize>
+    ensures { MatchOption result (word.old ≡ 0) (λ b. LowestTaken word.old b word.new) }
+{
+    let b = lowest(*word)?;
+    *word &= *word - 1;
+    Some(b)
+}
+
+// The lowest bit of a word.
+#[tactic(auto, using(crate::proofs::Bits::lowest))]
+fn lowest(word: u64) -> Option<usize>
+    ensures { MatchOption result (word ≡ 0) (Lowest word_bits word) }
+{
+    if word == 0 {
+        None
+    } else {
+        Some(u64::trailing_zeros(word) as usize)
+    }
 }
 
 // The word of eight bytes, the lowest first.
@@ -269,56 +223,15 @@ fn get_word(row: &[u8], at: usize) -> u64
     requires { at + word_bytes ≤ length row.now }
     ensures { (b : ℕ) → b < word_bits → bit result b ≡ bit (get_or row.now (at + b / byte_bits) 0) (b % byte_bits) }
 {
-    let mut x = 0;
-    let mut i = WORD_BYTES;
-    while 0 < i {
-        i -= 1;
-        x = x << BYTE_BITS | wide(row[at + i]);
-    }
-    x
-}
-
-// The lowest byte.
-fn byte(x: u64) -> u8
-    ensures { result ≡ x % 2 ^ byte_bits }
-{
-    (x % 256) as u8
+    let bytes = <[u8; WORD_BYTES]>::try_from(&row[at..at + WORD_BYTES]);
+    u64::from_le_bytes(bytes.unwrap())
 }
 
 // Writes a word as eight bytes, the lowest first.
+#[tactic(auto, using(crate::proofs::Bytes::put))]
 fn put_word(row: &mut [u8], at: usize, x: u64)
     requires { at + word_bytes ≤ length row.old }
     ensures { WordAt row.old row.new at x }
 {
-    let mut i = 0;
-    while i < WORD_BYTES {
-        let p = at + i;
-        row[p] = byte(x >> (BYTE_BITS * i));
-        i += 1;
-    }
-}
-
-// Makes set 0 of `to` the set at the front of a row.
-pub fn load_row(row: &[u8], to: &mut [u64])
-    requires { (set_bytes ≤ length row.now) × (set_words ≤ length to.old) }
-    ensures { (x : ℕ) → has to.new 0 x ≡ row_has row.now x }
-{
-    let mut i = 0;
-    while i < SET_WORDS {
-        to[i] = get_word(row, WORD_BYTES * i);
-        i += 1;
-    }
-}
-
-// Writes set 0 of `from` to the front of a row.
-pub fn store_row(row: &mut [u8], from: &[u64])
-    requires { (set_bytes ≤ length row.old) × (set_words ≤ length from.now) }
-    ensures by_index { (x : ℕ) → row_has row.new x ≡ has from.now 0 x }
-    ensures by_index_2 { (i : ℕ) → set_bytes ≤ i → get_or row.new i 0 ≡ get_or row.old i 0 }
-{
-    let mut i = 0;
-    while i < SET_WORDS {
-        put_word(row, WORD_BYTES * i, from[i]);
-        i += 1;
-    }
+    row[at..at + WORD_BYTES].copy_from_slice(&x.to_le_bytes());
 }

@@ -16,11 +16,12 @@ use Rattle.language.specs.Reading.{Pattern}
 use Rattle.language.specs.Follow.{stop}
 use Rattle.language.specs.Search.{pick, next, afresh, ok_in, next_reading}
 use Rattle.language.proofs.Places.{next_from, next_here}
-use Rattle.bits.specs.Sets.{set_bits, has, row_has, LeastFrom, found, nowhere}
+use Rattle.bits.specs.declared.Set.{Set}
+use Rattle.bits.specs.Sets.{set_bits, has, row_has, LeastAt}
 use Rattle.automaton.specs.Tables.{Follows}
 use Rattle.rows.specs.Rows.{readable, row_at, RowsOf}
 use Rattle.choices.specs.Moves.{chosen, Small}
-use Rattle.choices.proofs.Picks.{least_above, fine, picked_live, later_pick}
+use Rattle.choices.proofs.Picks.{fine, picked_live, later_pick, later_none}
 
 -- ---- later positions of one place: f is live, g may come next
 
@@ -32,37 +33,26 @@ pub record Tried (f g : ℕ → Bool) (w q : ℕ) : Type 0 where
 pub tried_none : {f g : ℕ → Bool} {w : ℕ} → Tried f g w w
 tried_none = record { more = omega arith; fails = λ x h k. absurd (omega arith) }
 
-module _ {f g : ℕ → Bool} {w q r : ℕ} (old : Tried f g w q) (l : LeastFrom f (q + 1) r) where
-  before : (x : ℕ) → w < x → x < r → (f x && g x) ≡ false
-  before x h k = by_cases (dec_lt q x) (λ (d : q < x). go l k d) (λ (d : ¬ (q < x)). old.fails x h (omega arith))
-    where
-      go : {m : ℕ} → LeastFrom f (q + 1) m → x < m → q < x → (f x && g x) ≡ false
-      go (found b e n) k d = rw (n x (omega arith) k) refl
-      go (nowhere n) k d = rw (n x (omega arith)) refl
+module _ {f g : ℕ → Bool} {w q : ℕ} (old : Tried f g w q) where
+  module _ {r : ℕ} (l : LeastAt f (q + 1) r) where
+    before : (x : ℕ) → w < x → x < r → (f x && g x) ≡ false
+    before x h k = by_cases (dec_lt q x) (λ (d : q < x). rw (l.least x (omega arith) k) refl) (λ (d : ¬ (q < x)). old.fails x h (omega arith))
 
-  -- the next live position does not do either
-  pub tried_more : (r ≡ 0 → ⊥) → g r ≡ false → Tried f g w r
-  tried_more z e =
-      record {
-        more = omega (arith, least_above l z, old.more);
-        fails = λ x h k. by_cases (ℕ_discrete x r) (λ (d : x ≡ r). rw (d, e) (and-false (f r))) (λ (d : ¬ (x ≡ r)). before x h (omega arith));
-      }
+    -- the next live position does not do either
+    pub tried_more : g r ≡ false → Tried f g w r
+    tried_more e =
+        record {
+          more = omega (arith, l.above, old.more);
+          fails = λ x h k. by_cases (ℕ_discrete x r) (λ (d : x ≡ r). rw (d, e) (and-false (f r))) (λ (d : ¬ (x ≡ r)). before x h (omega arith));
+        }
 
-  -- it does
-  pub tried_found : (r ≡ 0 → ⊥) → g r ≡ true → LeastFrom (λ x. f x && g x) (suc w) r
-  tried_found z e = go l refl
-    where
-      go : {m : ℕ} → LeastFrom f (q + 1) m → m ≡ r → LeastFrom (λ x. f x && g x) (suc w) r
-      go (found b t n) d = found {q = r} (omega (arith, old.more)) (rw (rw d at t, e) refl) (λ x h k. before x h k)
-      go (nowhere n) d = absurd (z (sym d))
+    -- it does
+    pub tried_found : g r ≡ true → LeastAt (λ x. f x && g x) (suc w) r
+    tried_found e = record { above = omega (arith, l.above, old.more); passes = rw (l.passes, e) refl; least = λ x h k. before x h k }
 
   -- there is none
-  pub tried_all : r ≡ 0 → LeastFrom (λ x. f x && g x) (suc w) 0
-  tried_all z = nowhere (λ x h. by_cases (dec_lt q x) (λ (d : q < x). go l z d) (λ (d : ¬ (q < x)). old.fails x h (omega arith)))
-    where
-      go : {m : ℕ} → LeastFrom f (q + 1) m → m ≡ 0 → {x : ℕ} → q < x → (f x && g x) ≡ false
-      go (found b t n) d k = absurd (omega arith)
-      go (nowhere n) d {x} k = rw (n x (omega arith)) refl
+  pub tried_all : ((x : ℕ) → q + 1 ≤ x → f x ≡ false) → (x : ℕ) → suc w ≤ x → (f x && g x) ≡ false
+  tried_all n x h = by_cases (dec_lt q x) (λ (d : q < x). rw (n x (omega arith)) refl) (λ (d : ¬ (q < x)). old.fails x h (omega arith))
 
 -- ---- places from the right
 
@@ -77,48 +67,51 @@ pub record Still (P : Pattern) (name w : List ℕ) (i : ℕ) : Type 0 where
 pub still_start : {P : Pattern} {name w : List ℕ} → Still P name w (length name)
 still_start {name = name} = record { stays = rw (drop-length name) refl }
 
--- r is the least position after entry i of w that is live and may come after p
-abbrev pub MovesTo : List ℕ → List ℕ → List ℕ → ℕ → ℕ → ℕ → Type 0
-MovesTo follow work w i p r = LeastFrom (λ x. row_has (row_at work i) x && has follow p x) (suc (get_or w i 0)) r
+-- x is live at place i, and may come after p
+abbrev pub may : List Set → List ℕ → ℕ → ℕ → ℕ → Bool
+may follow work i p x = row_has (row_at work i) x && has follow p x
 
 -- it is the turn of place i, after p
 module _ {P : Pattern} {name w : List ℕ} {left : ℕ} (still : Still P name w left) (fits : left ≤ length name) (long : length w ≡ length name)
-    (follow work : List ℕ) (f : Follows P follow) (rows : RowsOf P name work) (i : ℕ) (e : suc i ≡ left) {p : ℕ} (before : p ≡ get_or (0 ∷ w) i 0) where
+    (follow : List Set) (work : List ℕ) (f : Follows P follow) (rows : RowsOf P name work) (i : ℕ) (e : suc i ≡ left)
+    {p : ℕ} (before : p ≡ get_or (0 ∷ w) i 0) where
   abbrev bs : List ℕ
   bs = drop (suc i) name
+
+  abbrev picked_here : ℕ
+  picked_here = pick (fine P (get_or name i 0) bs p) (suc (get_or w i 0)) (size P.tree - get_or w i 0)
 
   inside : i < length name
   inside = omega arith
 
-  is_picked : (r : ℕ) → MovesTo follow work w i p r → r ≡ pick (fine P (get_or name i 0) bs p) (suc (get_or w i 0)) (size P.tree - get_or w i 0)
-  is_picked r = later_pick P (get_or name i 0) bs follow (row_at work i) f (rows i inside) p (get_or w i 0) r
-
-  here : (r : ℕ) → MovesTo follow work w i p r → next_at P name w i ≡ afresh (ok_in P) (stop P.tree) (size P.tree) bs r
-  here r l =
+  here : (r : ℕ) → r ≡ picked_here → next_at P name w i ≡ afresh (ok_in P) (stop P.tree) (size P.tree) bs r
+  here r d =
       let rest = rw (← e) at still.stays in
-      rw (← before, drop-cons name i 0 inside, drop-cons w i 0 (omega (arith, inside)), is_picked r l)
+      rw (← before, drop-cons name i 0 inside, drop-cons w i 0 (omega (arith, inside)), d)
       (next_here (ok_in P) (stop P.tree) (size P.tree) (get_or name i 0) bs p (get_or w i 0) (drop (suc i) w) rest)
 
-  pub still_turn : MovesTo follow work w i p 0 → Still P name w i
-  still_turn l = record { stays = here 0 l }
+  -- nothing after the entry may come there
+  pub still_turn : ((x : ℕ) → suc (get_or w i 0) ≤ x → may follow work i p x ≡ false) → Still P name w i
+  still_turn n = record { stays = here 0 (later_none P (get_or name i 0) bs follow (row_at work i) f (rows i inside) p (get_or w i 0) n) }
 
   -- the place moves to r
-  pub moves : {r : ℕ} → (r ≡ 0 → ⊥) → MovesTo follow work w i p r
+  pub moves : {r : ℕ} → LeastAt (may follow work i p) (suc (get_or w i 0)) r
       → T (readable P (drop (suc i) name) r) × (next_reading P name w ≡ some (take i w ++ r ∷ chosen P (drop (suc i) name) r))
-  moves {r} z l = (
-    rw picked (picked_live P (get_or name i 0) bs p (suc (get_or w i 0)) (size P.tree - get_or w i 0) (rw (← picked) (lt→ltb 0 r (omega arith)))),
-    next_from (ok_in P) (stop P.tree) (size P.tree) i name w (r ∷ chosen P bs r) 0 (here r l ∙ some_afresh r (omega arith)),
+  moves {r} l = (
+    rw picked (picked_live P (get_or name i 0) bs p (suc (get_or w i 0)) (size P.tree - get_or w i 0) (rw (← picked) (lt→ltb 0 r (omega (arith, l.above))))),
+    next_from (ok_in P) (stop P.tree) (size P.tree) i name w (r ∷ chosen P bs r) 0 (here r picked ∙ some_afresh r (omega (arith, l.above))),
   )
     where
-      picked : r ≡ pick (fine P (get_or name i 0) bs p) (suc (get_or w i 0)) (size P.tree - get_or w i 0)
-      picked = is_picked r l
+      picked : r ≡ picked_here
+      picked = later_pick P (get_or name i 0) bs follow (row_at work i) f (rows i inside) p (get_or w i 0) r l
 
       some_afresh : (r : ℕ) → 0 < r → afresh (ok_in P) (stop P.tree) (size P.tree) bs r ≡ some (r ∷ chosen P bs r)
       some_afresh zero z = absurd (omega arith)
       some_afresh (suc r) z = refl
 
 -- the entry is put, and all after it is chosen
-pub advanced : (P : Pattern) (name w : List ℕ) {v put : List ℕ} {i : ℕ} (q : ℕ) → i < length w → put ≡ set w i q → v ≡ take (i + 1) put ++ chosen P (drop (i + 1) name) q
+pub advanced : (P : Pattern) (name w : List ℕ) {v put : List ℕ} {i : ℕ} (q : ℕ) → i < length w → put ≡ set w i q
+    → v ≡ take (i + 1) put ++ chosen P (drop (i + 1) name) q
     → next_reading P name w ≡ some (take i w ++ q ∷ chosen P (drop (suc i) name) q) → next_reading P name w ≡ some v
 advanced P name w {i = i} q h p e m = m ∙ ap some (sym (e ∙ rw (p, add-one i, take-suc-set w i q h, append_assoc) refl))
 

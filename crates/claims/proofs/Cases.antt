@@ -6,7 +6,7 @@ use mathlib.Core.List.{List, [], ◌∷◌}
 use Prim.Native.Nat.{ℕ, ◌+◌}
 use lib.Dec.{T, eqb, eqb→eq, T_not}
 use Rattle.rules.specs.declared.Refusal.{Refusal}
-use Rattle.rules.specs.Fault.{at}
+use Rattle.rules.specs.Fault.{text_fault_number, at, RefusedAs}
 use Rattle.rules.specs.Grounds.{first_of}
 use Rattle.language.specs.Tree.{Tree, size}
 use Rattle.language.specs.Reading.{Pattern, Reading}
@@ -50,7 +50,7 @@ number_is (some j) k = eqb j k
 
 abbrev fault_is : Option Refusal → ℕ → ℕ → Bool
 fault_is none k i = false
-fault_is (some f) k i = eqb f.number k && eqb f.place i
+fault_is (some f) k i = eqb (text_fault_number f.fault) k && eqb f.place i
 
 abbrev onward_test : Pattern → List ℕ → List ℕ → List (List ℕ) → Bool
 onward_test P name r [] = none_is (next_reading P name r)
@@ -93,10 +93,12 @@ number_eq : (o : Option ℕ) (k : ℕ) → T (number_is o k) → o ≡ some k
 number_eq none k h = absurd h
 number_eq (some j) k h = ap some (eqb→eq j k h)
 
-fault_eq : (o : Option Refusal) (k i : ℕ) → T (fault_is o k i) → o ≡ some (at i k)
+fault_eq : (o : Option Refusal) (k i : ℕ) → T (fault_is o k i) → RefusedAs o k i
 fault_eq none k i h = absurd h
 fault_eq (some f) k i h =
-    ap₂ (λ (k i : ℕ). some (at i k)) (eqb→eq f.number k (and_left (eqb f.number k) (eqb f.place i) h)) (eqb→eq f.place i (and_right (eqb f.number k) (eqb f.place i) h))
+    let number = eqb→eq (text_fault_number f.fault) k (and_left (eqb (text_fault_number f.fault) k) (eqb f.place i) h) in
+    let place = eqb→eq f.place i (and_right (eqb (text_fault_number f.fault) k) (eqb f.place i) h) in
+    (f.fault, number, ap (λ (i : ℕ). some (at i f.fault)) place)
 
 module _ (P : Pattern) (n : Numbered 1 (1 + size P.tree) P.tree) (name : List ℕ) where
   onward_sound : (r : List ℕ) (rs : List (List ℕ)) → Reading P name r → T (onward_test P name r rs) → Onward P name r rs

@@ -1,5 +1,5 @@
 -- Demand 1 holds.
-use mathlib.Core.Path.{◌≡◌, refl, ap, ap₂, sym, ◌∙◌}
+use mathlib.Core.Path.{◌≡◌, refl, ap, sym, ◌∙◌}
 use mathlib.Core.Logic.{◌↔◌}
 use mathlib.Core.Option.{Option, none, some}
 use mathlib.Core.List.{List, []}
@@ -9,7 +9,7 @@ use lib.ListN.{length}
 use Rattle.rules.specs.Limits.{open_limit, wiped}
 use Rattle.rules.specs.Numbers.{done, text_long, sheet_short, repeat_fault, sheet_form, work_short}
 use Rattle.rules.specs.declared.Refusal.{Refusal}
-use Rattle.rules.specs.Fault.{at}
+use Rattle.rules.specs.Fault.{text_fault_number, at, RefusedAs}
 use Rattle.rules.specs.Grounds.{first_of, Call, refused, answered}
 use Rattle.rules.proofs.Grounds.{some_eq, no_some}
 use Rattle.language.specs.Tree.{Tree}
@@ -78,10 +78,13 @@ text_call text buffer =
     }
   where
     exactly : (s : SheetEnd) → SheetCall text buffer s → (k i : ℕ) → text_long ≤ k → k ≤ repeat_fault → (k ≡ sheet_short → ⊥)
-        → ((s.number ≡ k) × (s.second ≡ i)) ↔ (text_refusal text ≡ some (at i k))
-    exactly s (refused {k = f} e) k i a b c = (λ (m, n). e ∙ ap₂ (λ (k i : ℕ). some (at i k)) m n, λ g. (ap (λ (f : Refusal). f.number) (some_eq (sym e ∙ g)), ap (λ (f : Refusal). f.place) (some_eq (sym e ∙ g))))
-    exactly s (answered e (made p h)) k i a b c = (λ (m, n). absurd (omega arith), λ g. no_some (sym e ∙ g))
-    exactly s (answered e (short p h)) k i a b c = (λ (m, n). absurd (c (sym m)), λ g. no_some (sym e ∙ g))
+        → ((s.number ≡ k) × (s.second ≡ i)) ↔ RefusedAs (text_refusal text) k i
+    exactly s (refused {k = f} e) k i a b c = (
+      λ (m, n). (f.fault, m, e ∙ ap (λ (i : ℕ). some (at i f.fault)) n),
+      λ (x, m, g). let z = some_eq (sym e ∙ g) in (ap (λ (f : Refusal). text_fault_number f.fault) z ∙ m, ap (λ (f : Refusal). f.place) z),
+    )
+    exactly s (answered e (made p h)) k i a b c = (λ (m, n). absurd (omega arith), λ (x, m, g). no_some (sym e ∙ g))
+    exactly s (answered e (short p h)) k i a b c = (λ (m, n). absurd (c (sym m)), λ (x, m, g). no_some (sym e ∙ g))
 
     too_short : (s : SheetEnd) → SheetCall text buffer s
         → (s.number ≡ sheet_short) ↔ ((text_refusal text ≡ none) × (t : Tree ℕ) × TreeOfText text t × (length buffer < length (sheet_of t)))

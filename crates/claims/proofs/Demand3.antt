@@ -3,8 +3,8 @@ use mathlib.Core.Path.{◌≡◌, refl, ap, sym, ◌∙◌}
 use mathlib.Core.Bool.{Bool}
 use mathlib.Core.Option.{none, some}
 use mathlib.Core.List.{List, [], ◌∷◌}
+use Rattle.std.specs.Prelude.{Some}
 use Prim.Native.Nat.{ℕ, suc, ◌*◌, ◌≤◌}
-use native.Mathlib.Omega.{arith}
 use lib.ListN.{length}
 use borrow.Author.Tests.{le-ltb}
 use Rattle.rules.specs.Limits.{name_limit, area_for, filled}
@@ -36,7 +36,7 @@ module _ (sheet name : List ℕ) (P : Pattern) (fine : sheet_refusal sheet ≡ n
   -- nothing is refused where the buffers are long enough
   none-refused : (mapping work : List ℕ) → Enough name mapping work → first_of (mapping_grounds sheet name mapping work) ≡ none
   none-refused mapping work b =
-      later_part (sheet_grounds sheet) (name_grounds name (some (length mapping)) work) fine
+      later_part (sheet_grounds sheet) (name_grounds name (Some (length mapping)) work) fine
       ∙ rw (le-ltb name_limit (length name) small, le-ltb (length mapping) (entry_size * length name) b.mapped, le-ltb (length work) (area_for name) b.area) refl
 
   this_pattern : {Q : Pattern} → stands_for sheet ≡ some Q → Q ≡ P

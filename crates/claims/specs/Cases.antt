@@ -3,7 +3,7 @@ use Rattle.std.specs.Prelude.{◌≡◌, List, [], ◌∷◌, ℕ}
 use Rattle.std.proofs.Math.Option.{none, some}
 use Prim.Native.String.{String, [] as noText, ◌∷◌ as ◌then◌}
 use Prim.Native.Char.{code}
-use Rattle.rules.specs.Fault.{at}
+use Rattle.rules.specs.Fault.{RefusedAs}
 use Rattle.rules.specs.Grounds.{first_of}
 use Rattle.language.specs.Tree.{Tree}
 use Rattle.language.specs.Reading.{Pattern}
@@ -41,7 +41,7 @@ Holds (makes text sheet) = (t : Tree ℕ) × Parsed text t × (sheet_of t ≡ sh
 Holds (has_nodes text nodes) = (t : Tree ℕ) × Parsed text t × (postorder t ≡ nodes)
 Holds (is_made text) = (t : Tree ℕ) × Parsed text t
 Holds (reads text name rs) = (t : Tree ℕ) × Parsed text t × (P : Pattern) × (stands_for (sheet_of t) ≡ some P) × Listing P name rs
-Holds (refused text k i) = text_refusal text ≡ some (at i k)
+Holds (refused text k i) = RefusedAs (text_refusal text) k i
 Holds (bad_sheet sheet k) = sheet_refusal sheet ≡ some k
 Holds (bad_call sheet name mapping work k) = first_of (mapping_grounds sheet name mapping work) ≡ some k
 

@@ -11,6 +11,7 @@ use native.Mathlib.Omega.{arith}
 use lib.ListN.{length, get_or, drop, drop_of_length-le}
 use lib.Seq.{drop-cons, drop-drop}
 use borrow.Author.Tests.{eqb-true}
+use Rattle.rules.specs.declared.TextFault.{TextFault}
 use Rattle.lexer.specs.Bytes.{bar, asterisk, left_parenthesis, right_parenthesis}
 use Rattle.lexer.specs.Tokens.{Token, Placed, placed, a_bar, a_star, an_open, a_close, a_fault, tok, wrong, first, starts, token_of, lex, tokens_from}
 
@@ -58,7 +59,7 @@ module _ (t : List ℕ) (at : ℕ) where
         (ap (first at (λ (j : ℕ). lex (suc at) j (drop (suc at) t))) q
         ∙ ap (λ (ps : List Placed). placed at x ∷ ps) (lex_skip (suc at) n (drop (suc at) t) ∙ rw (drop-drop n (suc at) t) refl))
 
-    pub tokens_wrong : (k o : ℕ) → token_of (get_or t at 0) (drop (at + 1) t) ≡ wrong k o → tokens_from t at ≡ placed (at + o) (a_fault k) ∷ []
+    pub tokens_wrong : (k : TextFault) (o : ℕ) → token_of (get_or t at 0) (drop (at + 1) t) ≡ wrong k o → tokens_from t at ≡ placed (at + o) (a_fault k) ∷ []
     tokens_wrong k o e =
         let q : token_of (get_or t at 0) (drop (suc at) t) ≡ wrong k o = rw (add-one at) at e in
         rw (drop-cons t at 0) (ap (first at (λ (j : ℕ). lex (suc at) j (drop (suc at) t))) q)

@@ -5,6 +5,7 @@ use Prim.Native.Nat.{ℕ, zero, suc, ◌+◌, ◌≤◌}
 use native.Mathlib.Omega.{arith}
 use lib.Dec.{eqb}
 use lib.ListN.{length}
+use Rattle.rules.specs.declared.TextFault.{TextFault}
 use Rattle.lexer.specs.declared.Kind.{Kind}
 use Rattle.lexer.specs.declared.Kind.TheVariants.{Plain, Mark, Refused}
 use Rattle.lexer.specs.Bytes.{bar, asterisk, left_parenthesis, right_parenthesis, backslash, kind_of}
@@ -19,14 +20,14 @@ Inside e (placed i t ∷ ps) = (i ≤ e) × Inside e ps
 -- a fault lies at most n bytes on
 data Near (n : ℕ) : One → Type 0 where
   token : {t : Token} {k : ℕ} → Near n (tok t k)
-  fault : {k o : ℕ} → o ≤ n → Near n (wrong k o)
+  fault : {k : TextFault} {o : ℕ} → o ≤ n → Near n (wrong k o)
 
 pick : {n : ℕ} (c : Bool) {x y : One} → Near n x → Near n y → Near n (cond c x y)
 pick true p q = p
 pick false p q = q
 
 -- a fault at the first byte
-here : {k : ℕ} (n : ℕ) → Near n (wrong k 0)
+here : {k : TextFault} (n : ℕ) → Near n (wrong k 0)
 here n = fault {o = 0} (omega arith)
 
 literal_near : (n b o : ℕ) (r : Repeat) → o + 1 ≤ n → Near n (literal_of b o r)

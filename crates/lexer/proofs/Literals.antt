@@ -9,7 +9,8 @@ use lib.Dec.{eqb, leb}
 use lib.ListN.{drop}
 use borrow.Author.Tests.{leb-true}
 use Rattle.rules.specs.Limits.{outside}
-use Rattle.rules.specs.Numbers.{text_byte, repeat_fault}
+use Rattle.rules.specs.declared.TextFault.{TextFault}
+use Rattle.rules.specs.declared.TextFault.TheVariants.{TextByte, RepeatFault}
 use Rattle.lexer.specs.declared.Kind.{Kind}
 use Rattle.lexer.specs.declared.Kind.TheVariants.{Plain, Mark, Refused}
 use Rattle.lexer.specs.Bytes.{bar, asterisk, left_parenthesis, right_parenthesis, backslash, left_brace, right_brace, comma, kind_of}
@@ -24,7 +25,7 @@ Literal a_bar = Unit {0}
 Literal a_star = Unit {0}
 Literal an_open = Unit {0}
 Literal a_close = Unit {0}
-Literal (a_fault k) = (k ≡ text_byte) ⊎ (k ≡ repeat_fault)
+Literal (a_fault k) = (k ≡ TextByte) ⊎ (k ≡ RepeatFault)
 
 abbrev pub Writable : List Placed → Type 0
 Writable [] = Unit {0}
@@ -74,7 +75,7 @@ repeat-rising s = go (starts s left_brace)
 -- the first token
 data Right : One → Type 0 where
   token : {t : Token} {n : ℕ} → Literal t → Right (tok t n)
-  fault : {k o : ℕ} → Literal (a_fault k) → Right (wrong k o)
+  fault : {k : TextFault} {o : ℕ} → Literal (a_fault k) → Right (wrong k o)
 
 literal-right : (b o : ℕ) (r : Repeat) → outside b ≡ false → Rising r → Right (literal_of b o r)
 literal-right b o no_repeat h r = token {t = a_literal b 1 1} (h, omega arith)

@@ -2,7 +2,7 @@
 use Rattle.std.specs.Prelude.{cond, List, [], ◌∷◌, ℕ, ◌+◌, ltb}
 use Rattle.std.proofs.Math.Option.{Option, none, some}
 use Rattle.rules.specs.Limits.{leaf_limit}
-use Rattle.rules.specs.Numbers.{leaves_many}
+use Rattle.rules.specs.declared.TextFault.TheVariants.{LeavesMany}
 use Rattle.rules.specs.declared.Refusal.{Refusal}
 use Rattle.rules.specs.Fault.{at}
 use Rattle.lexer.specs.Tokens.{Token, a_literal, a_bar, a_star, an_open, a_close, a_fault, Placed, placed}
@@ -29,4 +29,4 @@ leaves_of (a_fault k) = 0
 -- 16: the place of the literal whose leaves pass the limit, after n leaves
 abbrev pub passing : ℕ → List Placed → Option Refusal
 passing n [] = none
-passing n (placed i t ∷ ps) = cond (ltb leaf_limit (n + leaves_of t)) (some (at i leaves_many)) (passing (n + leaves_of t) ps)
+passing n (placed i t ∷ ps) = cond (ltb leaf_limit (n + leaves_of t)) (some (at i LeavesMany)) (passing (n + leaves_of t) ps)

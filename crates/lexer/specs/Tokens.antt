@@ -1,6 +1,7 @@
 -- From the bytes of an expression to its tokens, each with its place (document 01, "Expressions as text"; faults 11 and 19).
 use Rattle.std.specs.Prelude.{Bool, false, cond, ◌&&◌, List, [], ◌∷◌, ℕ, zero, suc, ◌+◌, ◌-◌, ◌*◌, eqb, leb, drop, get_or}
-use Rattle.rules.specs.Numbers.{text_byte, repeat_fault}
+use Rattle.rules.specs.declared.TextFault.{TextFault}
+use Rattle.rules.specs.declared.TextFault.TheVariants.{TextByte, RepeatFault}
 use Rattle.lexer.specs.declared.Kind.{Kind}
 use Rattle.lexer.specs.declared.Kind.TheVariants.{Plain, Mark, Refused}
 use Rattle.lexer.specs.Bytes.{bar, asterisk, left_parenthesis, right_parenthesis, backslash, left_brace, right_brace, comma, digit_zero, kind_of, is_digit}
@@ -9,7 +10,7 @@ use Rattle.lexer.specs.Bytes.{bar, asterisk, left_parenthesis, right_parenthesis
 pub data Token : Type 0 where
   a_literal : ℕ → ℕ → ℕ → Token
   a_bar a_star an_open a_close : Token
-  a_fault : ℕ → Token
+  a_fault : TextFault → Token
 
 -- a token and the place of its first byte
 pub data Placed : Type 0 where
@@ -59,22 +60,22 @@ repeat_at s = cond (starts s left_brace) (counted s (number_at (drop 1 s))) no_r
 -- the first token of bytes and how many bytes it has after its first; or a fault's number and how many bytes on it lies
 pub data One : Type 0 where
   tok : Token → ℕ → One
-  wrong : ℕ → ℕ → One
+  wrong : TextFault → ℕ → One
 
 -- a literal byte whose last byte lies o bytes on, and what follows it; a fault between braces is 19 at the {
 abbrev pub literal_of : ℕ → ℕ → Repeat → One
 literal_of b o no_repeat = tok (a_literal b 1 1) o
-literal_of b o bad_repeat = wrong repeat_fault (o + 1)
+literal_of b o bad_repeat = wrong RepeatFault (o + 1)
 literal_of b o (repeat x y n) = tok (a_literal b x y) (o + n)
 
 -- "A mark is written as a literal by a backslash before it": b stands after the backslash, and s after b
 abbrev pub escaped_by : Kind → ℕ → List ℕ → One
 escaped_by Mark b s = literal_of b 1 (repeat_at s)
-escaped_by Plain b s = wrong text_byte 0
-escaped_by Refused b s = wrong text_byte 0
+escaped_by Plain b s = wrong TextByte 0
+escaped_by Refused b s = wrong TextByte 0
 
 abbrev pub escaped_of : List ℕ → One
-escaped_of [] = wrong text_byte 0
+escaped_of [] = wrong TextByte 0
 escaped_of (b ∷ s) = escaped_by (kind_of b) b s
 
 -- the mark b before the bytes s; a brace that no literal stands before is 19
@@ -85,13 +86,13 @@ mark_of b s =
     (cond (eqb b left_parenthesis) (tok an_open 0)
     (cond (eqb b right_parenthesis) (tok a_close 0)
     (cond (eqb b backslash) (escaped_of s)
-    (wrong repeat_fault 0)))))
+    (wrong RepeatFault 0)))))
 
 -- the byte b of a kind before the bytes s
 abbrev pub token_by : Kind → ℕ → List ℕ → One
 token_by Plain b s = literal_of b 0 (repeat_at s)
 token_by Mark b s = mark_of b s
-token_by Refused b s = wrong text_byte 0
+token_by Refused b s = wrong TextByte 0
 
 abbrev pub token_of : ℕ → List ℕ → One
 token_of b s = token_by (kind_of b) b s

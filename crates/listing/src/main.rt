@@ -1,11 +1,11 @@
 // The listing program of document 01: an expression and a name on two lines, every reading of the name in order.
-// It stands on the calls that satchelram_c exports, and has no promise of its own but to be safe and to end.
+// It has no promise of its own but to be safe and to end.
 #![tactic(auto)]
 
-ghost use Rattle.std.specs.Prelude.{◌<◌};
-ghost use Rattle.satchelram.specs.Packing.{second_room};
+ghost use Rattle.std.specs.Prelude.{◌≤◌};
 
-use console::{Failure, close, front, put, put_number, put_reading, status};
+use console::{Failure, Page, front, status};
+use reader::NameFault;
 use std::io;
 use std::io::{Read, Write};
 use std::process::ExitCode;
@@ -29,244 +29,201 @@ const CHUNK: usize = 4096;
 // Reads of the input at most, so that the program ends.
 const TURNS: u64 = 1 << 50;
 
-// What comes after the lines 0 and 1: the input is over.
-const OVER: usize = 2;
+// A line of the input, or as much of it as there is room for.
+#[derive(Drop)]
+struct Line<const N: usize> {
+    bytes: [u8; N],
+    length: usize,
+    ghost inside: { length ≤ N },
+}
 
-// Where the input stands: which line, and how many bytes of each were kept.
-#[derive(Clone, Copy)]
+impl<const N: usize> Line<N> {
+    fn new() -> Self {
+        Line {
+            bytes: [0; N],
+            length: 0,
+        }
+    }
+
+    // Keeps a byte where there is room.
+    fn push(&mut self, byte: u8) {
+        if self.length < N {
+            self.bytes[self.length] = byte;
+            self.length += 1;
+        }
+    }
+
+    fn as_slice(&self) -> &[u8] {
+        &self.bytes[..self.length]
+    }
+}
+
+// Where the input stands: in its first line, in its second, or past both.
+#[derive(Clone, Copy, PartialEq, Eq, Debug)]
+enum Standing {
+    First,
+    Second,
+    Over,
+}
+
+// Both lines, and where the input stands.
+#[derive(Drop)]
 struct Lines {
-    line: usize,
-    text: usize,
-    name: usize,
+    text: Line<TEXT_ROOM>,
+    name: Line<NAME_ROOM>,
+    standing: Standing,
 }
 
-// Keeps a byte where there is room, and gives the place after the last byte kept.
-fn keep(line: &mut [u8], at: usize, byte: u8) -> usize {
-    if at < line.len() {
-        line[at] = byte;
-        return at + 1;
-    }
-    at
-}
-
-// One byte of input. A third line and what follows are ignored.
-fn take(at: Lines, byte: u8, text: &mut [u8], name: &mut [u8]) -> Lines {
-    if OVER <= at.line {
-        return at;
-    }
-    if byte == b'\n' {
-        return Lines {
-            line: at.line + 1,
-            ..at
-        };
-    }
-    if at.line == 0 {
-        return Lines {
-            text: keep(text, at.text, byte),
-            ..at
-        };
-    }
-    Lines {
-        name: keep(name, at.name, byte),
-        ..at
-    }
-}
-
-fn take_all(from: Lines, bytes: &[u8], text: &mut [u8], name: &mut [u8]) -> Lines {
-    let mut at = from;
-    for byte in bytes {
-        at = take(at, *byte, text, name);
-    }
-    at
-}
-
-// No more is read: both lines are over.
-fn ended(at: Lines) -> Lines {
-    Lines { line: OVER, ..at }
-}
-
-// One read. At the end of the input both lines are over.
-fn read_some<R: Read>(
-    input: &mut R,
-    at: Lines,
-    text: &mut [u8],
-    name: &mut [u8],
-) -> io::Result<Lines> {
-    let mut chunk = [0u8; CHUNK];
-    let n = input.read(&mut chunk)?;
-    if n == 0 {
-        return Ok(ended(at));
-    }
-    Ok(take_all(at, &chunk[..n], text, name))
-}
-
-fn read_lines<R: Read>(input: &mut R, text: &mut [u8], name: &mut [u8]) -> io::Result<Lines> {
-    let mut at = Lines {
-        line: 0,
-        text: 0,
-        name: 0,
-    };
-    for _ in 0..TURNS {
-        at = read_some(input, at, text, name)?;
-        if OVER <= at.line {
-            break;
+impl Lines {
+    fn new() -> Self {
+        Lines {
+            text: Line::new(),
+            name: Line::new(),
+            standing: Standing::First,
         }
     }
-    Ok(at)
-}
 
-fn number(answer: u64) -> u64 {
-    answer % satchelram::NUMBER_ROOM
-}
-
-fn second(answer: u64) -> u64
-    ensures { result < second_room }
-{
-    answer / satchelram::NUMBER_ROOM % satchelram::SECOND_ROOM
-}
-
-fn put_counts<W: Write>(
-    out: &mut W,
-    page: &mut [u8],
-    at: &mut usize,
-    sheet: &[u8],
-) -> io::Result<()> {
-    put(out, page, at, b"leaves ")?;
-    put_number(out, page, at, sheet::leaf_count(sheet) as u64)?;
-    put(out, page, at, b" nodes ")?;
-    put_number(out, page, at, sheet::nodes(sheet).len() as u64)?;
-    put(out, page, at, b"\n")
-}
-
-// A reading on a line of its own.
-fn list_reading<W: Write>(
-    out: &mut W,
-    page: &mut [u8],
-    at: &mut usize,
-    mapping: &[u8],
-    n: usize,
-) -> io::Result<()> {
-    put_reading(out, page, at, mapping, n)?;
-    put(out, page, at, b"\n")
-}
-
-fn put_end<W: Write>(out: &mut W, page: &mut [u8], at: &mut usize, count: u64) -> io::Result<()> {
-    put(out, page, at, b"end ")?;
-    put_number(out, page, at, count)?;
-    put(out, page, at, b"\n")
-}
-
-fn put_refused<W: Write>(out: &mut W, page: &mut [u8], at: &mut usize, n: u64) -> io::Result<()> {
-    put(out, page, at, b"refused ")?;
-    put_number(out, page, at, n)
-}
-
-// Asks for the next reading and lists it, if there is one.
-fn list_next<W: Write>(
-    out: &mut W,
-    page: &mut [u8],
-    at: &mut usize,
-    sheet: &[u8],
-    name: &[u8],
-    mapping: &mut [u8],
-    work: &mut [u8],
-) -> io::Result<bool> {
-    let answer = satchelram::satchelram_next(sheet, name, mapping, work);
-    if number(answer) != 0 {
-        return Ok(false);
-    }
-    list_reading(out, page, at, mapping, name.len())?;
-    Ok(true)
-}
-
-// What follows the first reading, which the mapping holds.
-fn list_on<W: Write>(
-    out: &mut W,
-    page: &mut [u8],
-    at: &mut usize,
-    sheet: &[u8],
-    name: &[u8],
-    mapping: &mut [u8],
-    work: &mut [u8],
-) -> io::Result<()> {
-    for count in 1..MOST {
-        if !list_next(out, page, at, sheet, name, mapping, work)? {
-            return put_end(out, page, at, count);
+    // One byte of input. A third line and what follows are ignored.
+    fn take(&mut self, byte: u8) {
+        match (self.standing, byte) {
+            (Standing::First, b'\n') => self.standing = Standing::Second,
+            (Standing::First, _) => self.text.push(byte),
+            (Standing::Second, b'\n') => self.standing = Standing::Over,
+            (Standing::Second, _) => self.name.push(byte),
+            (Standing::Over, _) => {}
         }
     }
-    let answer = satchelram::satchelram_next(sheet, name, mapping, work);
-    if number(answer) == 0 {
-        put(out, page, at, b"more\n")
-    } else {
-        put_end(out, page, at, MOST)
+
+    // One read. At the end of the input both lines are over.
+    fn read_some<R: Read>(&mut self, input: &mut R) -> io::Result<()> {
+        let mut chunk = [0u8; CHUNK];
+        let n = input.read(&mut chunk)?;
+        if n == 0 {
+            self.standing = Standing::Over;
+        }
+        for byte in &chunk[..n] {
+            self.take(*byte);
+        }
+        Ok(())
+    }
+
+    fn read<R: Read>(&mut self, input: &mut R) -> io::Result<()> {
+        for _ in 0..TURNS {
+            self.read_some(input)?;
+            if self.standing == Standing::Over {
+                break;
+            }
+        }
+        Ok(())
     }
 }
 
-fn list_all<W: Write>(
-    out: &mut W,
-    page: &mut [u8],
-    at: &mut usize,
-    sheet: &[u8],
-    name: &[u8],
-    mapping: &mut [u8],
-    work: &mut [u8],
-) -> io::Result<()> {
-    put_counts(out, page, at, sheet)?;
-    let answer = satchelram::satchelram_first(sheet, name, mapping, work);
-    if number(answer) == 0 {
-        list_reading(out, page, at, mapping, name.len())?;
-        list_on(out, page, at, sheet, name, mapping, work)
-    } else if number(answer) == 1 {
-        put_end(out, page, at, 0)
-    } else {
-        put_refused(out, page, at, number(answer))?;
-        put(out, page, at, b"\n")
-    }
+// The readings of a name: a sheet, the name, and the buffers that the reader works in.
+#[derive(Drop)]
+struct Readings<'a> {
+    sheet: &'a [u8],
+    name: &'a [u8],
+    mapping: [u8; mapping::MOST],
+    work: [u8; WORK_ROOM],
 }
 
-fn list<W: Write>(
-    out: &mut W,
-    page: &mut [u8],
-    at: &mut usize,
-    text: &[u8],
-    name: &[u8],
-) -> io::Result<()> {
-    let mut sheet = [0u8; sheet::LONGEST];
-    let mut mapping = [0u8; mapping::MOST];
-    let mut work = [0u8; WORK_ROOM];
-    let answer = satchelram::satchelram_sheet(text, &mut sheet);
-    if number(answer) == 0 {
-        let size = second(answer) as usize;
-        list_all(
-            out,
-            page,
-            at,
-            front(&sheet, size),
+impl<'a> Readings<'a> {
+    fn new(sheet: &'a [u8], name: &'a [u8]) -> Self {
+        Readings {
+            sheet,
             name,
-            &mut mapping,
-            &mut work,
-        )
-    } else {
-        put_refused(out, page, at, number(answer))?;
-        put(out, page, at, b" at ")?;
-        put_number(out, page, at, second(answer))?;
-        put(out, page, at, b"\n")
+            mapping: [0; mapping::MOST],
+            work: [0; WORK_ROOM],
+        }
+    }
+
+    fn first(&mut self) -> Result<bool, NameFault> {
+        reader::first(self.sheet, self.name, &mut self.mapping, &mut self.work)
+    }
+
+    fn next(&mut self) -> Result<bool, NameFault> {
+        reader::next(self.sheet, self.name, &mut self.mapping, &mut self.work)
+    }
+
+    // The reading that the mapping holds, on a line of its own.
+    fn put<W: Write>(&self, page: &mut Page<W, PAGE>) -> io::Result<()> {
+        page.put_reading(&self.mapping, self.name.len())?;
+        page.put(b"\n")
+    }
+
+    // The readings that follow the one that the mapping holds, and how the list ends.
+    fn list_on<W: Write>(&mut self, page: &mut Page<W, PAGE>) -> io::Result<()> {
+        for count in 1..MOST {
+            match self.next() {
+                Ok(true) => self.put(page)?,
+                _ => return put_end(page, count),
+            }
+        }
+        match self.next() {
+            Ok(true) => page.put(b"more\n"),
+            _ => put_end(page, MOST),
+        }
+    }
+
+    fn list<W: Write>(&mut self, page: &mut Page<W, PAGE>) -> io::Result<()> {
+        put_counts(page, self.sheet)?;
+        match self.first() {
+            Ok(true) => {
+                self.put(page)?;
+                self.list_on(page)
+            }
+            Ok(false) => put_end(page, 0),
+            refused => {
+                put_refused(page, reader::number(refused))?;
+                page.put(b"\n")
+            }
+        }
+    }
+}
+
+fn put_counts<W: Write>(page: &mut Page<W, PAGE>, sheet: &[u8]) -> io::Result<()> {
+    page.put(b"leaves ")?;
+    page.put_number(sheet::leaf_count(sheet) as u64)?;
+    page.put(b" nodes ")?;
+    page.put_number(sheet::nodes(sheet).len() as u64)?;
+    page.put(b"\n")
+}
+
+fn put_end<W: Write>(page: &mut Page<W, PAGE>, count: u64) -> io::Result<()> {
+    page.put(b"end ")?;
+    page.put_number(count)?;
+    page.put(b"\n")
+}
+
+fn put_refused<W: Write>(page: &mut Page<W, PAGE>, number: u64) -> io::Result<()> {
+    page.put(b"refused ")?;
+    page.put_number(number)
+}
+
+fn list<W: Write>(page: &mut Page<W, PAGE>, text: &[u8], name: &[u8]) -> io::Result<()> {
+    let mut sheet = [0u8; sheet::LONGEST];
+    match sheet_call::make(text, &mut sheet) {
+        Ok(size) => Readings::new(front(&sheet, size), name).list(page),
+        Err(refusal) => {
+            put_refused(page, refusal.fault.number())?;
+            page.put(b" at ")?;
+            page.put_number(refusal.place as u64)?;
+            page.put(b"\n")
+        }
     }
 }
 
 // Lists onto a page, and writes it.
 fn list_to<W: Write>(out: &mut W, text: &[u8], name: &[u8]) -> io::Result<()> {
-    let mut page = [0u8; PAGE];
-    let mut at = 0;
-    list(out, &mut page, &mut at, text, name)?;
-    close(out, &page, at)
+    let mut page = Page::new(out);
+    list(&mut page, text, name)?;
+    page.close()
 }
 
 fn read_and_list<R: Read, W: Write>(input: &mut R, out: &mut W) -> Result<(), Failure> {
-    let mut text = [0u8; TEXT_ROOM];
-    let mut name = [0u8; NAME_ROOM];
-    let at = read_lines(input, &mut text, &mut name).map_err(|_| Failure::Input)?;
-    list_to(out, front(&text, at.text), front(&name, at.name)).map_err(|_| Failure::Output)
+    let mut lines = Lines::new();
+    lines.read(input).map_err(|_| Failure::Input)?;
+    list_to(out, lines.text.as_slice(), lines.name.as_slice()).map_err(|_| Failure::Output)
 }
 
 fn main(rt: HostRuntime) -> ExitCode {

@@ -6,11 +6,11 @@ ghost use Rattle.rules.specs.Limits.{name_limit, filled};
 ghost use Rattle.mapping.specs.Entries.{entry_size, entry_values, stored, entries, Put};
 
 // A place of the name, from 0.
-#[derive(Clone, Copy)]
+#[derive(Clone, Copy, Debug, PartialEq, Eq)]
 pub struct Place(pub usize);
 
 // A position of the expression, from 1; 0 is the start.
-#[derive(Clone, Copy)]
+#[derive(Clone, Copy, Debug, PartialEq, Eq)]
 pub struct Position(pub usize);
 
 const ENTRY_SIZE: usize = 1;
@@ -35,12 +35,12 @@ pub fn holds(size: usize, n: usize) -> bool
 }
 
 // The entry for a place.
+#[tactic(auto, using(crate::proofs::Entries::entry_is))]
 pub fn entry(mapping: &[u8], i: Place) -> Position
     requires { entry_size * (i.0 + 1) ≤ length mapping.now }
     ensures { ((n : ℕ) → i.0 < n → result.0 ≡ get_or (entries n mapping.now) i.0 0) × (result.0 < entry_values) }
 {
-    let from = ENTRY_SIZE * i.0;
-    Position(buffers::wide(mapping[from]))
+    Position(usize::from(mapping[ENTRY_SIZE * i.0]))
 }
 
 // The entry before a place; at the first place, the start.
@@ -55,15 +55,16 @@ pub fn entry_before(mapping: &[u8], i: Place) -> Position
 }
 
 // Puts a position into the entry for a place.
+#[tactic(auto, using(crate::proofs::Entries::put_byte))]
 pub fn put(mapping: &mut [u8], i: Place, q: Position)
     requires { (entry_size * (i.0 + 1) ≤ length mapping.old) × (q.0 < entry_values) }
     ensures { Put i.0 q.0 mapping.old mapping.new }
 {
-    let at = ENTRY_SIZE * i.0;
-    mapping[at] = q.0 as u8;
+    mapping[ENTRY_SIZE * i.0] = q.0 as u8;
 }
 
 // Keeps the first n entries, and makes the rest of the buffer zero.
+#[tactic(auto, unfolding(crate::specs::Entries::stored, crate::specs::Entries::entries))]
 pub fn wipe_from(mapping: &mut [u8], n: usize)
     requires { entry_size * n ≤ length mapping.old }
     ensures { mapping.new ≡ filled mapping.old (stored (entries n mapping.old)) }

@@ -1,15 +1,18 @@
 -- From what the tests and the searches found to the ends of the calls.
-use mathlib.Core.Path.{◌≡◌, refl, sym, ◌∙◌}
+use mathlib.Core.Path.{◌≡◌, refl, sym}
 use mathlib.Core.Bool.{Bool, true, false}
 use mathlib.Core.Option.{Option, none, some}
 use mathlib.Core.List.{List, []}
+use Rattle.std.specs.Prelude.{None, Some, Result, Ok, Err}
+use Rattle.std.specs.Result.{IsErrAnd}
+use Rattle.std.proofs.lemmas.Result.{err_from_is_err_and}
 use Prim.Native.Nat.{ℕ, ◌+◌, ◌*◌}
 use native.Mathlib.Omega.{arith}
 use lib.ListN.{length}
 use lib.Seq.{drop-drop}
 use Rattle.rules.specs.Limits.{row_size, area_for, wiped, filled}
-use Rattle.rules.specs.Grounds.{Call, refused, answered}
-use Rattle.mapping.specs.Entries.{stored, entries, given}
+use Rattle.rules.specs.Grounds.{first_of, Call, refused}
+use Rattle.mapping.specs.Entries.{stored, given}
 use Rattle.mapping.proofs.Entries.{none_kept}
 use Rattle.language.specs.Tree.{size}
 use Rattle.language.specs.Local.{Numbered}
@@ -21,18 +24,13 @@ use Rattle.language.proofs.Computed.{accepts_decides, reading_decides, first-rig
 use Rattle.sheet.specs.Stands.{stands_for}
 use Rattle.rows.specs.Rows.{row_at}
 use Rattle.rows.proofs.Live.{T_true}
-use Rattle.reader.specs.Outcome.{End, refused_with, cleared, AcceptWent, accepted, not_in, AcceptCall, FirstWent, found, absent, FirstCall}
-use Rattle.reader.specs.Outcome.{NextWent, found_next, no_more, unread, NextCall, CheckWent, right, wrong, CheckCall}
-use Rattle.reader.specs.Answer.{end_of}
-use Rattle.reader.specs.Made.{reason_of, FirstMade, NextMade, answer_of, kept_by, left_by}
-use Rattle.reader.specs.declared.Answer.{Answer}
-use Rattle.reader.specs.declared.Answer.TheVariants.{Done, No}
-use Rattle.reader.specs.declared.Test.{Test}
-use Rattle.reader.specs.declared.Test.TheVariants.{Refused}
-use Rattle.reader.specs.declared.Step.{Step}
-use Rattle.reader.specs.declared.Step.TheVariants.{Found, Absent, Unread}
+use Rattle.reader.specs.Outcome.{End, cleared, AcceptWent, accepted, not_in, FirstWent, found, absent}
+use Rattle.reader.specs.Outcome.{NextWent, found_next, no_more, unread, CheckWent, right, wrong}
+use Rattle.reader.specs.Answer.{refusal_number, end_of}
+use Rattle.reader.specs.Made.{FirstMade, NextMade, left_by}
+use Rattle.reader.specs.declared.NameFault.{NameFault}
+use Rattle.reader.specs.Refusals.{mapping_grounds, accept_grounds}
 use Rattle.reader.proofs.Settled.{pattern_of_lem}
-use Rattle.reader.proofs.Tests.{Fit, refusal}
 
 -- what a test that decides it says of A
 holds : {b : Bool} {A : Type 0} → Decides b A → b ≡ true → A
@@ -41,22 +39,21 @@ holds {b} d e = d.to (T_true b e)
 fails : {b : Bool} {A : Type 0} → Decides b A → b ≡ false → A → ⊥
 fails d e a = rw e at (d.from a)
 
--- the answer to a question
-abbrev pub said : Bool → Answer
-said true = Done
-said false = No
+-- A REFUSAL, as `?` returns it
+pub refused_so : {g : Option ℕ} {went : End → Type 0} (r : Result Bool NameFault) (kept : ℕ → End) (f : NameFault) (mapping work : List ℕ)
+    → some (refusal_number f) ≡ g → IsErrAnd r (λ e. e ≡ f) → kept (refusal_number f) ≡ end_of (Err f) mapping work → Call g kept went (end_of r mapping work)
+refused_so r kept f mapping work e i k = let p = err_from_is_err_and r i in rw (p.1, p.2, ← k) (refused (sym e))
 
 -- WHAT THE SEARCHES FOUND, over the pattern that the sheet stands for
 module _ (sheet name mapping work : List ℕ) (P : Pattern) (x : stands_for sheet ≡ some P) (n : Numbered 1 (1 + size P.tree) P.tree) where
-  accept_is : (b : Bool) → accepts P name ≡ b → AcceptWent sheet name work (end_of (said b) [] (cleared name work))
+  accept_is : (b : Bool) → accepts P name ≡ b → AcceptWent sheet name work (end_of (Ok b) [] (cleared name work))
   accept_is true e = accepted x (holds (accepts_decides P n name) e)
   accept_is false e = not_in x (fails (accepts_decides P n name) e)
 
-  first_is : (after : List ℕ) → length after ≡ length mapping → (s : Step) → FirstMade P name after s
-      → FirstWent sheet name mapping work (end_of (answer_of s) (left_by s (length name) after) (cleared name work))
-  first_is after l Found (a, e) = rw (e, l) (found x (first-right P n name (holds (itself (accepts P name)) a)))
-  first_is after l Absent a = rw l (absent x (first-none P n name (fails (itself (accepts P name)) a)))
-  first_is after l Unread a = absurd a
+  first_is : (after : List ℕ) → length after ≡ length mapping → (b : Bool) → FirstMade P name after b
+      → FirstWent sheet name mapping work (end_of (Ok b) (left_by (Ok b) (length name) after) (cleared name work))
+  first_is after l true (a, e) = rw (e, l) (found x (first-right P n name (holds (itself (accepts P name)) a)))
+  first_is after l false a = rw (none_kept, l) (absent x (first-none P n name (fails (itself (accepts P name)) a)))
 
   read_is : is_reading P name (given name mapping) ≡ true → Reading P name (given name mapping)
   read_is = holds (reading_decides P n name (given name mapping))
@@ -65,70 +62,60 @@ module _ (sheet name mapping work : List ℕ) (P : Pattern) (x : stands_for shee
   not_read = fails (reading_decides P n name (given name mapping))
 
   there : Reading P name (given name mapping) → {v : List ℕ} → Next (Reading P name) (given name mapping) (some v)
-      → NextWent sheet name mapping work (end_of Done (filled mapping (stored v)) (cleared name work))
+      → NextWent sheet name mapping work (end_of (Ok true) (filled mapping (stored v)) (cleared name work))
   there g (moved m) = found_next x g m
 
   nowhere : Reading P name (given name mapping) → Next (Reading P name) (given name mapping) none
-      → NextWent sheet name mapping work (end_of No (wiped mapping) (cleared name work))
+      → NextWent sheet name mapping work (end_of (Ok false) (wiped mapping) (cleared name work))
   nowhere g (stuck m) = no_more x g m
 
-  next_is : (after : List ℕ) → length after ≡ length mapping → (s : Step) → NextMade P name mapping after s
-      → NextWent sheet name mapping work (end_of (answer_of s) (left_by s (length name) after) (cleared name work))
-  next_is after l Found (a, m) = rw l (there (read_is a) (rw m at (next-right P n name (given name mapping) (read_is a))))
-  next_is after l Absent (a, m) = rw l (nowhere (read_is a) (rw m at (next-right P n name (given name mapping) (read_is a))))
-  next_is after l Unread a = rw l (unread x (not_read a))
+  next_is : (after : List ℕ) → length after ≡ length mapping → (r : Result Bool NameFault) → NextMade P name mapping after r
+      → NextWent sheet name mapping work (end_of r (left_by r (length name) after) (cleared name work))
+  next_is after l (Ok true) (a, m) = rw l (there (read_is a) (rw m at (next-right P n name (given name mapping) (read_is a))))
+  next_is after l (Ok false) (a, m) = rw (none_kept, l) (nowhere (read_is a) (rw m at (next-right P n name (given name mapping) (read_is a))))
+  next_is after l (Err f) (e, a) = rw (none_kept, l, e) (unread x (not_read a))
 
-  check_is : (b : Bool) → is_reading P name (given name mapping) ≡ b → CheckWent sheet name mapping work (end_of (said b) mapping (cleared name work))
+  check_is : (b : Bool) → is_reading P name (given name mapping) ≡ b → CheckWent sheet name mapping work (end_of (Ok b) mapping (cleared name work))
   check_is true e = right x (read_is e)
   check_is false e = wrong x (not_read e)
 
 -- the rows were filled and then wiped
-cleared-whole : {end : List ℕ} (name work filled : List ℕ) → row_at filled (length name) ≡ row_at work (length name) → end ≡ cleared name filled → end ≡ cleared name work
-cleared-whole name work filled e f =
+cleared-whole : (name work filled : List ℕ) → row_at filled (length name) ≡ row_at work (length name) → cleared name filled ≡ cleared name work
+cleared-whole name work filled e =
     let d : area_for name ≡ row_size * length name + row_size = omega arith in
-    f ∙ rw (d, ← drop-drop row_size (row_size * length name) filled, ← drop-drop row_size (row_size * length name) work, e) refl
+    rw (d, ← drop-drop row_size (row_size * length name) filled, ← drop-drop row_size (row_size * length name) work, e) refl
 
--- what is kept of the mapping and zeros are what is left
-pub left_is : (s : Step) (n : ℕ) (mapping : List ℕ) → filled mapping (stored (entries (kept_by s n) mapping)) ≡ left_by s n mapping
-left_is Found n mapping = refl
-left_is Absent n mapping = none_kept mapping
-left_is Unread n mapping = none_kept mapping
+-- THE SEARCHES OF THE FOUR CALLS, over the sheet and the name of a question; the row after the name's is as it was
+abbrev Same : List ℕ → List ℕ → List ℕ → Type 0
+Same name work rows = row_at rows (length name) ≡ row_at work (length name)
 
--- A REFUSAL that leaves the mapping, and one that wipes it
-pub call_refused : {g : Option ℕ} {t : Test} {a : Answer} {mapping work : List ℕ} {went : End → Type 0} → reason_of t ≡ g → t ≡ Refused a
-    → Call g (refused_with mapping work) went (end_of a mapping work)
-call_refused e k = refused (refusal e k)
+module _ {sheet name bytes asked : List ℕ} (of_sheet : bytes ≡ sheet) (of_name : asked ≡ name) (mapping work rows : List ℕ) where
+  whole : Same asked work rows → cleared name rows ≡ cleared name work
+  whole same = cleared-whole name work rows (rw of_name at same)
 
-pub wiped-refused : {g : Option ℕ} {t : Test} {a b : Answer} {end work : List ℕ} {went : End → Type 0} (mapping : List ℕ) → reason_of t ≡ g → t ≡ Refused a
-    → (b ≡ a) × (end ≡ wiped mapping) → Call g (refused_with (wiped mapping) work) went (end_of b end work)
-wiped-refused mapping e k (s, w) = rw (s, w) (refused (refusal e k))
+  pub accept_went : first_of (accept_grounds sheet name work) ≡ none → (b : Bool)
+      → ((P : Pattern) → stands_for bytes ≡ some P → b ≡ accepts P asked) → Same asked work rows
+      → AcceptWent sheet name work (end_of (Ok b) [] (cleared asked rows))
+  accept_went passed b is same =
+      let (P, x, n) = pattern_of_lem sheet name None work passed in
+      rw of_name (rw (whole same) (accept_is sheet name mapping work P x n b (sym ((rw (of_sheet, of_name) at is) P x))))
 
--- ACCEPT
-pub accept_went : {sheet name work end : List ℕ} {r b : Bool} → Fit sheet name none work → (rows : List ℕ)
-    → ((P : Pattern) → stands_for sheet ≡ some P → r ≡ accepts P name) × (row_at rows (length name) ≡ row_at work (length name))
-    → end ≡ cleared name rows → r ≡ b → AcceptCall sheet name work (end_of (said b) [] end)
-accept_went {sheet} {name} {work} {b = b} f rows (is, keeps) c t =
-    let (P, x, n) = pattern_of_lem sheet f.accepted in
-    rw (cleared-whole name work rows keeps c) (answered f.passed (accept_is sheet name [] work P x n b (sym (is P x) ∙ t)))
+  module _ (passed : first_of (mapping_grounds sheet name mapping work) ≡ none) where
+    pub check_went : (b : Bool) → ((P : Pattern) → stands_for bytes ≡ some P → b ≡ is_reading P asked (given asked mapping))
+        → CheckWent sheet name mapping work (end_of (Ok b) mapping (cleared asked work))
+    check_went b is =
+        let (P, x, n) = pattern_of_lem sheet name (Some (length mapping)) work passed in
+        rw of_name (check_is sheet name mapping work P x n b (sym ((rw (of_sheet, of_name) at is) P x)))
 
-module _ {sheet name mapping work : List ℕ} (f : Fit sheet name (some (length mapping)) work) where
-  -- FIRST AND NEXT: a search came to s, the rows were wiped, and the mapping was left so
-  module _ {area end : List ℕ} {a : Answer} (s : Step) (after rows : List ℕ) (same : length after ≡ length mapping) where
-    pub first_went : ((P : Pattern) → stands_for sheet ≡ some P → FirstMade P name after s) × (row_at rows (length name) ≡ row_at work (length name))
-        → area ≡ cleared name rows → (a ≡ answer_of s) × (end ≡ left_by s (length name) after) → FirstCall sheet name mapping work (end_of a end area)
-    first_went (made, keeps) c (t, l) =
-        let (P, x, n) = pattern_of_lem sheet f.accepted in
-        rw (cleared-whole name work rows keeps c, t, l) (answered f.passed (first_is sheet name mapping work P x n after same s (made P x)))
+    module _ (after : List ℕ) (long : length after ≡ length mapping) where
+      pub first_went : (b : Bool) → ((P : Pattern) → stands_for bytes ≡ some P → FirstMade P asked after b) → Same asked work rows
+          → FirstWent sheet name mapping work (end_of (Ok b) (left_by (Ok b) (length asked) after) (cleared asked rows))
+      first_went b made same =
+          let (P, x, n) = pattern_of_lem sheet name (Some (length mapping)) work passed in
+          rw of_name (rw (whole same) (first_is sheet name mapping work P x n after long b ((rw (of_sheet, of_name) at made) P x)))
 
-    pub next_went : ((P : Pattern) → stands_for sheet ≡ some P → NextMade P name mapping after s) × (row_at rows (length name) ≡ row_at work (length name))
-        → area ≡ cleared name rows → (a ≡ answer_of s) × (end ≡ left_by s (length name) after) → NextCall sheet name mapping work (end_of a end area)
-    next_went (made, keeps) c (t, l) =
-        let (P, x, n) = pattern_of_lem sheet f.accepted in
-        rw (cleared-whole name work rows keeps c, t, l) (answered f.passed (next_is sheet name mapping work P x n after same s (made P x)))
-
-  -- CHECK
-  pub check_went : {end : List ℕ} {r b : Bool} → ((P : Pattern) → stands_for sheet ≡ some P → r ≡ is_reading P name (given name mapping))
-      → end ≡ cleared name work → r ≡ b → CheckCall sheet name mapping work (end_of (said b) mapping end)
-  check_went {b = b} is c t =
-      let (P, x, n) = pattern_of_lem sheet f.accepted in
-      rw c (answered f.passed (check_is sheet name mapping work P x n b (sym (is P x) ∙ t)))
+      pub next_went : (r : Result Bool NameFault) → ((P : Pattern) → stands_for bytes ≡ some P → NextMade P asked mapping after r) → Same asked work rows
+          → NextWent sheet name mapping work (end_of r (left_by r (length asked) after) (cleared asked rows))
+      next_went r made same =
+          let (P, x, n) = pattern_of_lem sheet name (Some (length mapping)) work passed in
+          rw of_name (rw (whole same) (next_is sheet name mapping work P x n after long r ((rw (of_sheet, of_name) at made) P x)))

@@ -1,5 +1,5 @@
 pub mod Settled
 pub mod Answers
 pub mod Tests
-pub mod Ends
 pub mod Searches
+pub mod Ends

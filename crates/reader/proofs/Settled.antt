@@ -2,6 +2,7 @@
 use mathlib.Core.Path.{◌≡◌, refl, ap, sym, ◌∙◌}
 use mathlib.Core.Option.{Option, none, some}
 use mathlib.Core.List.{List, []}
+use Rattle.std.specs.Prelude.{Option as Lent, None, Some}
 use Prim.Native.Nat.{ℕ, ◌+◌}
 use lib.ListN.{length}
 use Rattle.rules.specs.Limits.{wiped, filled}
@@ -17,15 +18,18 @@ use Rattle.language.proofs.Order.{least_unique}
 use Rattle.language.proofs.Decides.{itself, either}
 use Rattle.language.proofs.Search.{Next, moved, stuck}
 use Rattle.language.proofs.Computed.{accepts_decides, reading_decides, first-right, first-none, next-right}
-use Rattle.sheet.specs.Refusals.{sheet_grounds, sheet_refusal}
+use Rattle.sheet.specs.Refusals.{sheet_grounds}
 use Rattle.sheet.specs.Stands.{stands_for}
 use Rattle.sheet.proofs.Accepted.{accepted_meant, standing}
-use Rattle.reader.specs.Refusals.{name_grounds, mapping_grounds, accept_grounds}
+use Rattle.reader.specs.Refusals.{name_grounds, call_grounds, mapping_grounds, accept_grounds}
 use Rattle.reader.specs.Outcome.{End, refused_with, answered_with, AcceptWent, accepted, not_in, AcceptCall, FirstWent, found, absent, FirstCall, NextWent, found_next, no_more, unread, NextCall, CheckWent, right, wrong, CheckCall}
 
--- a sheet that is not refused stands for a pattern numbered from 1
-pub pattern_of_lem : (sheet : List ℕ) → sheet_refusal sheet ≡ none → (P : Pattern) × (stands_for sheet ≡ some P) × Numbered 1 (1 + size P.tree) P.tree
-pattern_of_lem sheet e = let (P, m) = accepted_meant sheet e in (P, m.stands, (standing sheet P m.stands).numbered)
+-- the sheet of a call that is not refused stands for a pattern numbered from 1
+pub pattern_of_lem : (sheet name : List ℕ) (lent : Lent ℕ) (work : List ℕ) → first_of (call_grounds sheet name lent work) ≡ none
+    → (P : Pattern) × (stands_for sheet ≡ some P) × Numbered 1 (1 + size P.tree) P.tree
+pattern_of_lem sheet name lent work e =
+    let (P, m) = accepted_meant sheet (front_part (sheet_grounds sheet) (name_grounds name lent work) e) in
+    (P, m.stands, (standing sheet P m.stands).numbered)
 
 module _ (sheet name mapping work : List ℕ) where
   same_pattern : {P Q : Pattern} → stands_for sheet ≡ some P → stands_for sheet ≡ some Q → P ≡ Q
@@ -79,7 +83,7 @@ module _ (sheet name mapping work : List ℕ) where
     where
       go : first_of (accept_grounds sheet name work) ≡ none → (s : End) × AcceptWent sheet name work s
       go e =
-          let (P, x, n) = pattern_of_lem sheet (front_part (sheet_grounds sheet) (name_grounds name none work) e) in
+          let (P, x, n) = pattern_of_lem sheet name None work e in
           either (accepts P name) (accepts_decides P n name) (λ d. (_, accepted x d)) (λ d. (_, not_in x d))
 
   pub first_ends : (s : End) × FirstCall sheet name mapping work s
@@ -87,7 +91,7 @@ module _ (sheet name mapping work : List ℕ) where
     where
       go : first_of (mapping_grounds sheet name mapping work) ≡ none → (s : End) × FirstWent sheet name mapping work s
       go e =
-          let (P, x, n) = pattern_of_lem sheet (front_part (sheet_grounds sheet) (name_grounds name (some (length mapping)) work) e) in
+          let (P, x, n) = pattern_of_lem sheet name (Some (length mapping)) work e in
           either (accepts P name) (itself (accepts P name)) (λ h. (_, found x (first-right P n name h))) (λ h. (_, absent x (first-none P n name h)))
 
   pub next-ends : (s : End) × NextCall sheet name mapping work s
@@ -100,7 +104,7 @@ module _ (sheet name mapping work : List ℕ) where
 
       go : first_of (mapping_grounds sheet name mapping work) ≡ none → (s : End) × NextWent sheet name mapping work s
       go e =
-          let (P, x, n) = pattern_of_lem sheet (front_part (sheet_grounds sheet) (name_grounds name (some (length mapping)) work) e) in
+          let (P, x, n) = pattern_of_lem sheet name (Some (length mapping)) work e in
           let w = given name mapping in
           either (is_reading P name w) (reading_decides P n name w) (λ g. at P x g (next_reading P name w) (next-right P n name w g)) (λ g. (_, unread x g))
 
@@ -109,5 +113,5 @@ module _ (sheet name mapping work : List ℕ) where
     where
       go : first_of (mapping_grounds sheet name mapping work) ≡ none → (s : End) × CheckWent sheet name mapping work s
       go e =
-          let (P, x, n) = pattern_of_lem sheet (front_part (sheet_grounds sheet) (name_grounds name (some (length mapping)) work) e) in
+          let (P, x, n) = pattern_of_lem sheet name (Some (length mapping)) work e in
           either (is_reading P name (given name mapping)) (reading_decides P n name (given name mapping)) (λ g. (_, right x g)) (λ g. (_, wrong x g))

@@ -1,20 +1,25 @@
 -- The number of document 01 for each answer of the name calls, and the end that an answer makes.
-use Rattle.std.specs.Prelude.{List, ℕ}
+use Rattle.std.specs.Prelude.{Bool, true, false, List, ℕ, Result, Ok, Err}
 use Rattle.rules.specs.Numbers.{done, no, name_long, mapping_short, work_short, no_reading}
 use Rattle.sheet.specs.Answer.{fault_number}
 use Rattle.reader.specs.Outcome.{End}
-use Rattle.reader.specs.declared.Answer.{Answer}
-use Rattle.reader.specs.declared.Answer.TheVariants.{Done, No, Sheet, NameLong, MappingShort, WorkShort, NoReading}
+use Rattle.reader.specs.declared.NameFault.{NameFault}
+use Rattle.reader.specs.declared.NameFault.TheVariants.{Sheet, NameLong, MappingShort, WorkShort, NoReading}
 
-abbrev pub number_of : Answer → ℕ
-number_of Done = done
-number_of No = no
-number_of (Sheet f) = fault_number f
-number_of NameLong = name_long
-number_of MappingShort = mapping_short
-number_of WorkShort = work_short
-number_of NoReading = no_reading
+-- why a call is refused
+abbrev pub refusal_number : NameFault → ℕ
+refusal_number (Sheet f) = fault_number f
+refusal_number NameLong = name_long
+refusal_number MappingShort = mapping_short
+refusal_number WorkShort = work_short
+refusal_number NoReading = no_reading
 
--- the end of a call that answers a and leaves these bytes
-abbrev pub end_of : Answer → List ℕ → List ℕ → End
-end_of a mapping work = record { number = number_of a; second = 0; mapping = mapping; work = work }
+-- accepted, found, yes; not so; or why the call is refused
+abbrev pub number_of : Result Bool NameFault → ℕ
+number_of (Ok true) = done
+number_of (Ok false) = no
+number_of (Err f) = refusal_number f
+
+-- the end of a call that answers so and leaves these bytes
+abbrev pub end_of : Result Bool NameFault → List ℕ → List ℕ → End
+end_of answer mapping work = record { number = number_of answer; second = 0; mapping = mapping; work = work }

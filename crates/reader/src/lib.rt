@@ -1,33 +1,29 @@
 // Accept, first, next and check over plain slices.
 #![tactic(auto)]
 
-ghost use Rattle.std.specs.Prelude.{◌≡◌, true, false, [], ◌+◌, ◌*◌, ◌<◌, ◌≤◌, ltb, length};
-ghost use Rattle.std.proofs.Math.Option.{none, some};
+ghost use Rattle.std.specs.Prelude.{◌≡◌, [], ◌+◌, ◌*◌, ◌≤◌, ltb, length, IfOk, IfErr};
+ghost use Rattle.std.proofs.Math.Option.{some};
 ghost use Rattle.rules.specs.Limits.{name_limit, row_size, area_for, wiped};
 ghost use Rattle.rules.specs.Grounds.{first_of};
 ghost use Rattle.mapping.specs.Entries.{entry_size, given};
 ghost use Rattle.language.specs.Reading.{Pattern};
 ghost use Rattle.language.specs.Search.{accepts, is_reading};
-ghost use Rattle.sheet.specs.Answer.{fault_number};
-ghost use Rattle.sheet.specs.Refusals.{sheet_refusal};
 ghost use Rattle.sheet.specs.Stands.{stands_for};
 ghost use Rattle.rows.specs.Rows.{row_at};
-ghost use Rattle.reader.specs.Refusals.{name_grounds, call_grounds};
+ghost use Rattle.reader.specs.Refusals.{name_grounds, call_grounds, mapping_grounds};
 ghost use Rattle.reader.specs.Outcome.{cleared, AcceptCall, FirstCall, NextCall, CheckCall};
-ghost use Rattle.reader.specs.Answer.{number_of, end_of};
-ghost use Rattle.reader.specs.Made.{lent_of, lacks, reason_of, FirstMade, NextMade, answer_of, kept_by, left_by};
+ghost use Rattle.reader.specs.Answer.{refusal_number, number_of, end_of};
+ghost use Rattle.reader.specs.Made.{lacks, reason_of, FirstMade, NextMade, kept_by, left_by};
 
-use automaton::{FOLLOW_WORDS, LETTER_WORDS};
-use bits::SET_WORDS;
+use automaton::Tables;
 use mapping::{Place, Position};
+use rows::Rows;
 use rules::{NAME_LIMIT, ROW_SIZE};
-use sheet::{SheetFault, SheetTest};
+use sheet::{Sheet, SheetFault};
 
-// What a name call answers; specs/Answer.antt gives the numbers.
-#[derive(Drop)]
-pub enum Answer {
-    Done,
-    No,
+// Why a name call is refused; specs/Answer.antt gives the numbers.
+#[derive(Clone, Copy, Debug, PartialEq, Eq)]
+pub enum NameFault {
     Sheet(SheetFault),
     NameLong,
     MappingShort,
@@ -35,68 +31,47 @@ pub enum Answer {
     NoReading,
 }
 
-// What is lent for a mapping: nothing, or so many bytes.
-#[derive(Drop)]
-enum Lent {
-    Nothing,
-    Mapping(usize),
-}
+impl From<SheetFault> for NameFault {
+    ghost use Rattle.reader.specs.declared.NameFault.TheVariants.{Sheet};
 
-// What is found of a call before anything is searched.
-#[derive(Drop)]
-enum Test {
-    Passed,
-    Refused(Answer),
-}
+    ghost from_gives = { λ f e. e ≡ Sheet f };
 
-// What a search for a reading comes to: it is in the mapping; there is none; what was given is no reading.
-#[derive(Clone, Copy)]
-enum Step {
-    Found,
-    Absent,
-    Unread,
-}
-
-// The number for a fault of the sheet.
-fn sheet_number(f: SheetFault) -> u64
-    ensures { result ≡ fault_number f }
-{
-    match f {
-        SheetFault::SheetForm => rules::SHEET_FORM,
-        SheetFault::SheetLength => rules::SHEET_LENGTH,
-        SheetFault::SheetLeaves => rules::SHEET_LEAVES,
-        SheetFault::SheetByte => rules::SHEET_BYTE,
-        SheetFault::WaitingFew => rules::WAITING_FEW,
-        SheetFault::WaitingEnd => rules::WAITING_END,
-        SheetFault::WaitingMany => rules::WAITING_MANY,
-        SheetFault::LeavesUnequal => rules::LEAVES_UNEQUAL,
+    fn from(fault: SheetFault) -> NameFault {
+        NameFault::Sheet(fault)
     }
 }
 
-// The number for an answer.
-pub fn number(a: Answer) -> u64
-    ensures { result ≡ number_of a }
-{
-    match a {
-        Answer::Done => rules::DONE,
-        Answer::No => rules::NO,
-        Answer::Sheet(f) => sheet_number(f),
-        Answer::NameLong => rules::NAME_LONG,
-        Answer::MappingShort => rules::MAPPING_SHORT,
-        Answer::WorkShort => rules::WORK_SHORT,
-        Answer::NoReading => rules::NO_READING,
+impl NameFault {
+    pub fn number(self) -> u64
+        ensures { result ≡ refusal_number self }
+    {
+        match self {
+            NameFault::Sheet(f) => f.number(),
+            NameFault::NameLong => rules::NAME_LONG,
+            NameFault::MappingShort => rules::MAPPING_SHORT,
+            NameFault::WorkShort => rules::WORK_SHORT,
+            NameFault::NoReading => rules::NO_READING,
+        }
     }
 }
 
-// Whether a mapping is lent that has no room for n entries.
-fn lacks_entries(lent: Lent, n: usize) -> bool
+// The number for what a name call answers: accepted, found or yes; not so; or why it is refused.
+pub fn number(answer: Result<bool, NameFault>) -> u64
+    ensures { result ≡ number_of answer }
+{
+    match answer {
+        Ok(true) => rules::DONE,
+        Ok(false) => rules::NO,
+        Err(f) => f.number(),
+    }
+}
+
+// Whether a mapping of so many bytes is lent, and has no room for n entries.
+fn lacks_entries(lent: Option<usize>, n: usize) -> bool
     requires { n ≤ name_limit }
     ensures { result ≡ lacks lent n }
 {
-    match lent {
-        Lent::Nothing => false,
-        Lent::Mapping(size) => !mapping::holds(size, n),
-    }
+    lent.is_some_and(|size| !mapping::holds(size, n))
 }
 
 // Whether the work area has no room for the rows of a name of n bytes.
@@ -108,191 +83,200 @@ fn lacks_rows(work: &[u8], n: usize) -> bool
 }
 
 // 30, 31 where a mapping is lent, and 32.
-fn name_test(name: &[u8], lent: Lent, work: &[u8]) -> Test
-    ensures { reason_of result ≡ first_of (name_grounds name.now (lent_of lent) work.now) }
+fn name_test(name: &[u8], lent: Option<usize>, work: &[u8]) -> Result<(), NameFault>
+    ensures { reason_of result ≡ first_of (name_grounds name.now lent work.now) }
 {
     if NAME_LIMIT < name.len() {
-        return Test::Refused(Answer::NameLong);
+        return Err(NameFault::NameLong);
     }
-    let unmapped = lacks_entries(lent, name.len());
-    let cramped = lacks_rows(work, name.len());
-    if unmapped {
-        return Test::Refused(Answer::MappingShort);
+    if lacks_entries(lent, name.len()) {
+        return Err(NameFault::MappingShort);
     }
-    if cramped {
-        return Test::Refused(Answer::WorkShort);
+    if lacks_rows(work, name.len()) {
+        return Err(NameFault::WorkShort);
     }
-    Test::Passed
+    Ok(())
 }
 
-// 20 to 27, then 30, 31 where a mapping is lent, and 32.
-fn call_test(sheet: &[u8], name: &[u8], lent: Lent, work: &[u8]) -> Test
-    ensures { reason_of result ≡ first_of (call_grounds sheet.now name.now (lent_of lent) work.now) }
+// How many of n entries stay in the mapping after an answer: all if a reading was found.
+fn kept_by(answer: Result<bool, NameFault>, n: usize) -> usize
+    ensures { (result ≡ kept_by answer n) × (result ≤ n) }
 {
-    let s = sheet::test(sheet);
-    if let SheetTest::Refused(f) = s {
-        return Test::Refused(Answer::Sheet(f));
+    if answer == Ok(true) { n } else { 0 }
+}
+
+// What a call asks about once it has passed its tests: a tested sheet, and a name within the limit.
+#[derive(Clone, Copy)]
+struct Question<'a> {
+    sheet: Sheet<'a>,
+    name: &'a [u8],
+    ghost short: { length name.now ≤ name_limit },
+}
+
+impl<'a> Question<'a> {
+    // 20 to 27, then 30, 31 where a mapping is lent, and 32.
+    fn tested(
+        sheet: &'a [u8],
+        name: &'a [u8],
+        lent: Option<usize>,
+        work: &[u8],
+    ) -> Result<Question<'a>, NameFault>
+        ensures reason { reason_of result ≡ first_of (call_grounds sheet.now name.now lent work.now) }
+        ensures same { IfOk result (λ q. (q.sheet.bytes.now ≡ sheet.now) × (q.name.now ≡ name.now)) }
+    {
+        let sheet = sheet::test(sheet)?;
+        name_test(name, lent, work)?;
+        Ok(Question { sheet, name })
     }
-    name_test(name, lent, work)
-}
 
-// Makes the rows of all places zero.
-fn wipe_rows(work: &mut [u8], name: &[u8])
-    requires { (length name.now ≤ name_limit) × (area_for name.now ≤ length work.old) }
-    ensures { work.new ≡ cleared name.now work.old }
-{
-    buffers::wipe(work, ROW_SIZE * (name.len() + 1));
-}
-
-// Whether the name is in the language of an accepted sheet.
-fn in_language(sheet: &[u8], name: &[u8], work: &mut [u8]) -> bool
-    requires { (sheet_refusal sheet.now ≡ none) × (length name.now ≤ name_limit) × (area_for name.now ≤ length work.old) }
-    ensures value { (P : Pattern) → stands_for sheet.now ≡ some P → result ≡ accepts P name.now }
-    ensures name_unchanged { row_at work.new (length name.now) ≡ row_at work.old (length name.now) }
-{
-    let mut follow = [0u64; FOLLOW_WORDS];
-    let mut stops = [0u64; SET_WORDS];
-    let mut letters = [0u64; LETTER_WORDS];
-    automaton::tables(sheet, &mut follow, &mut stops, &mut letters);
-    rows::fill(work, name, &follow, &stops, &letters);
-    rows::begins(work, name, &follow, &stops)
-}
-
-// Writes the first reading of a name, if it has one.
-fn first_reading(sheet: &[u8], name: &[u8], mapping: &mut [u8], work: &mut [u8]) -> Step
-    requires { (sheet_refusal sheet.now ≡ none) × (length name.now ≤ name_limit) × (entry_size * length name.now ≤ length mapping.old) × (area_for name.now ≤ length work.old) }
-    ensures first_made { (P : Pattern) → stands_for sheet.now ≡ some P → FirstMade P name.now mapping.new result }
-    ensures name_unchanged { row_at work.new (length name.now) ≡ row_at work.old (length name.now) }
-{
-    let mut follow = [0u64; FOLLOW_WORDS];
-    let mut stops = [0u64; SET_WORDS];
-    let mut letters = [0u64; LETTER_WORDS];
-    automaton::tables(sheet, &mut follow, &mut stops, &mut letters);
-    rows::fill(work, name, &follow, &stops, &letters);
-    if rows::begins(work, name, &follow, &stops) {
-        choices::choose(mapping, name, work, &follow, Place(0), Position(0));
-        return Step::Found;
+    // The tests of a call that searches for a reading: where it is refused, all of the mapping is wiped.
+    fn to_search(
+        sheet: &'a [u8],
+        name: &'a [u8],
+        mapping: &mut [u8],
+        work: &[u8],
+    ) -> Result<Question<'a>, NameFault>
+        ensures reason { reason_of result ≡ first_of (mapping_grounds sheet.now name.now mapping.old work.now) }
+        ensures same { IfOk result (λ q. (q.sheet.bytes.now ≡ sheet.now) × (q.name.now ≡ name.now) × (mapping.new ≡ mapping.old)) }
+        ensures refused { IfErr result (λ f. mapping.new ≡ wiped mapping.old) }
+    {
+        let tested = Question::tested(sheet, name, Some(mapping.len()), work);
+        if tested.is_err() {
+            buffers::wipe_all(mapping);
+        }
+        tested
     }
-    Step::Absent
-}
 
-// Makes of the given reading the next one, if it is a reading and there is one.
-fn next_reading(sheet: &[u8], name: &[u8], mapping: &mut [u8], work: &mut [u8]) -> Step
-    requires { (sheet_refusal sheet.now ≡ none) × (length name.now ≤ name_limit) × (entry_size * length name.now ≤ length mapping.old) × (area_for name.now ≤ length work.old) }
-    ensures next_made { (P : Pattern) → stands_for sheet.now ≡ some P → NextMade P name.now mapping.old mapping.new result }
-    ensures name_unchanged { row_at work.new (length name.now) ≡ row_at work.old (length name.now) }
-{
-    let mut follow = [0u64; FOLLOW_WORDS];
-    let mut stops = [0u64; SET_WORDS];
-    let mut letters = [0u64; LETTER_WORDS];
-    automaton::tables(sheet, &mut follow, &mut stops, &mut letters);
-    if !choices::is_reading(name, mapping, &follow, &stops, &letters) {
-        return Step::Unread;
+    // Makes the rows of all places zero.
+    fn wipe_rows(self, work: &mut [u8])
+        requires { area_for self.name.now ≤ length work.old }
+        ensures { work.new ≡ cleared self.entry.name.now work.old }
+    {
+        buffers::wipe(work, ROW_SIZE * (self.name.len() + 1));
     }
-    rows::fill(work, name, &follow, &stops, &letters);
-    let moved = choices::advance(mapping, name, work, &follow);
-    if moved { Step::Found } else { Step::Absent }
-}
 
-// How many of n entries stay in the mapping.
-fn kept_by(s: Step, n: usize) -> usize
-    ensures { (result ≡ kept_by s n) × (result ≤ n) }
-{
-    match s {
-        Step::Found => n,
-        Step::Absent => 0,
-        Step::Unread => 0,
+    // Whether the name is in the language of the sheet.
+    fn in_language(self, work: &mut [u8]) -> bool
+        requires { area_for self.name.now ≤ length work.old }
+        ensures value { (P : Pattern) → stands_for self.entry.sheet.bytes.now ≡ some P → result ≡ accepts P self.entry.name.now }
+        ensures rest_unchanged { row_at work.new (length self.entry.name.now) ≡ row_at work.old (length self.entry.name.now) }
+    {
+        let tables = &Tables::of(self.sheet);
+        rows::fill(work, self.name, tables);
+        let rows = Rows {
+            name: self.name,
+            work,
+            tables,
+        };
+        rows.begins()
     }
-}
 
-fn answer_of(s: Step) -> Answer
-    ensures { result ≡ answer_of s }
-{
-    match s {
-        Step::Found => Answer::Done,
-        Step::Absent => Answer::No,
-        Step::Unread => Answer::NoReading,
+    // Writes the first reading of the name, if it has one.
+    fn first_reading(self, mapping: &mut [u8], work: &mut [u8]) -> bool
+        requires { (entry_size * length self.name.now ≤ length mapping.old) × (area_for self.name.now ≤ length work.old) }
+        ensures first_made { (P : Pattern) → stands_for self.entry.sheet.bytes.now ≡ some P → FirstMade P self.entry.name.now mapping.new result }
+        ensures rest_unchanged { row_at work.new (length self.entry.name.now) ≡ row_at work.old (length self.entry.name.now) }
+    {
+        let tables = &Tables::of(self.sheet);
+        rows::fill(work, self.name, tables);
+        let rows = Rows {
+            name: self.name,
+            work,
+            tables,
+        };
+        if rows.begins() {
+            choices::choose(&rows, mapping, Place(0), Position(0));
+            return true;
+        }
+        false
     }
-}
 
-// Leaves in the mapping what a search found for n places and zeros, and answers.
-fn settle(mapping: &mut [u8], n: usize, s: Step) -> Answer
-    requires { entry_size * n ≤ length mapping.old }
-    ensures { (result ≡ answer_of s) × (mapping.new ≡ left_by s n mapping.old) }
-{
-    let kept = kept_by(s, n);
-    mapping::wipe_from(mapping, kept);
-    answer_of(s)
-}
+    // Makes of the given reading the next one, if it is a reading and there is one.
+    fn next_reading(self, mapping: &mut [u8], work: &mut [u8]) -> Result<bool, NameFault>
+        requires { (entry_size * length self.name.now ≤ length mapping.old) × (area_for self.name.now ≤ length work.old) }
+        ensures next_made { (P : Pattern) → stands_for self.entry.sheet.bytes.now ≡ some P → NextMade P self.entry.name.now mapping.old mapping.new result }
+        ensures rest_unchanged { row_at work.new (length self.entry.name.now) ≡ row_at work.old (length self.entry.name.now) }
+    {
+        let tables = &Tables::of(self.sheet);
+        if !choices::is_reading(self.name, mapping, tables) {
+            return Err(NameFault::NoReading);
+        }
+        rows::fill(work, self.name, tables);
+        let rows = Rows {
+            name: self.name,
+            work,
+            tables,
+        };
+        let moved = choices::advance(&rows, mapping);
+        Ok(moved)
+    }
 
-// A refusal that wipes the mapping.
-fn refuse(mapping: &mut [u8], a: Answer) -> Answer
-    ensures { (result ≡ a) × (mapping.new ≡ wiped mapping.old) }
-{
-    buffers::wipe_all(mapping);
-    a
-}
+    // Whether the given sequence is a reading of the name.
+    fn given_reading(self, mapping: &[u8]) -> bool
+        requires { entry_size * length self.name.now ≤ length mapping.now }
+        ensures { (P : Pattern) → stands_for self.entry.sheet.bytes.now ≡ some P
+            → result ≡ is_reading P self.entry.name.now (given self.entry.name.now mapping.now) }
+    {
+        choices::is_reading(self.name, mapping, &Tables::of(self.sheet))
+    }
 
-// Whether the given sequence is a reading of the name.
-fn given_reading(sheet: &[u8], name: &[u8], mapping: &[u8]) -> bool
-    requires { (sheet_refusal sheet.now ≡ none) × (entry_size * length name.now ≤ length mapping.now) }
-    ensures { (P : Pattern) → stands_for sheet.now ≡ some P → result ≡ is_reading P name.now (given name.now mapping.now) }
-{
-    let mut follow = [0u64; FOLLOW_WORDS];
-    let mut stops = [0u64; SET_WORDS];
-    let mut letters = [0u64; LETTER_WORDS];
-    automaton::tables(sheet, &mut follow, &mut stops, &mut letters);
-    choices::is_reading(name, mapping, &follow, &stops, &letters)
+    // After a search: what was found stays in the mapping, with zeros after it, and the rows are wiped.
+    fn keep(self, found: Result<bool, NameFault>, mapping: &mut [u8], work: &mut [u8])
+        requires { (entry_size * length self.name.now ≤ length mapping.old) × (area_for self.name.now ≤ length work.old) }
+        ensures { (mapping.new ≡ left_by found (length self.entry.name.now) mapping.old) × (work.new ≡ cleared self.entry.name.now work.old) }
+    {
+        self.wipe_rows(work);
+        let kept = kept_by(found, self.name.len());
+        mapping::wipe_from(mapping, kept);
+    }
 }
 
 // Whether the name is in the language. There is no mapping, so no 31.
-pub fn accept(sheet: &[u8], name: &[u8], work: &mut [u8]) -> Answer
+pub fn accept(sheet: &[u8], name: &[u8], work: &mut [u8]) -> Result<bool, NameFault>
     ensures { AcceptCall sheet.now name.now work.old (end_of result [] work.new) }
 {
-    let t = call_test(sheet, name, Lent::Nothing, work);
-    if let Test::Refused(a) = t {
-        return a;
-    }
-    let inside = in_language(sheet, name, work);
-    wipe_rows(work, name);
-    if inside { Answer::Done } else { Answer::No }
+    let question = Question::tested(sheet, name, None, work)?;
+    let inside = question.in_language(work);
+    question.wipe_rows(work);
+    Ok(inside)
 }
 
 // The first reading of the name.
-pub fn first(sheet: &[u8], name: &[u8], mapping: &mut [u8], work: &mut [u8]) -> Answer
+pub fn first(
+    sheet: &[u8],
+    name: &[u8],
+    mapping: &mut [u8],
+    work: &mut [u8],
+) -> Result<bool, NameFault>
     ensures { FirstCall sheet.now name.now mapping.old work.old (end_of result mapping.new work.new) }
 {
-    let t = call_test(sheet, name, Lent::Mapping(mapping.len()), work);
-    if let Test::Refused(a) = t {
-        return refuse(mapping, a);
-    }
-    let s = first_reading(sheet, name, mapping, work);
-    wipe_rows(work, name);
-    settle(mapping, name.len(), s)
+    let question = Question::to_search(sheet, name, mapping, work)?;
+    let found = Ok(question.first_reading(mapping, work));
+    question.keep(found, mapping, work);
+    found
 }
 
 // The reading after the given one.
-pub fn next(sheet: &[u8], name: &[u8], mapping: &mut [u8], work: &mut [u8]) -> Answer
+pub fn next(
+    sheet: &[u8],
+    name: &[u8],
+    mapping: &mut [u8],
+    work: &mut [u8],
+) -> Result<bool, NameFault>
     ensures { NextCall sheet.now name.now mapping.old work.old (end_of result mapping.new work.new) }
 {
-    let t = call_test(sheet, name, Lent::Mapping(mapping.len()), work);
-    if let Test::Refused(why) = t {
-        return refuse(mapping, why);
-    }
-    let s = next_reading(sheet, name, mapping, work);
-    wipe_rows(work, name);
-    settle(mapping, name.len(), s)
+    let question = Question::to_search(sheet, name, mapping, work)?;
+    let found = question.next_reading(mapping, work);
+    question.keep(found, mapping, work);
+    found
 }
 
 // Whether the given sequence is a reading of the name.
-pub fn check(sheet: &[u8], name: &[u8], mapping: &[u8], work: &mut [u8]) -> Answer
+pub fn check(sheet: &[u8], name: &[u8], mapping: &[u8], work: &mut [u8]) -> Result<bool, NameFault>
     ensures { CheckCall sheet.now name.now mapping.now work.old (end_of result mapping.now work.new) }
 {
-    let t = call_test(sheet, name, Lent::Mapping(mapping.len()), work);
-    if let Test::Refused(a) = t {
-        return a;
-    }
-    let right = given_reading(sheet, name, mapping);
-    wipe_rows(work, name);
-    if right { Answer::Done } else { Answer::No }
+    let question = Question::tested(sheet, name, Some(mapping.len()), work)?;
+    let reads = question.given_reading(mapping);
+    question.wipe_rows(work);
+    Ok(reads)
 }

@@ -8,9 +8,12 @@
 // they are looked at; what is not as document 01 says is printed as `untidy`.
 #![tactic(auto)]
 
-ghost use Rattle.std.specs.Prelude.{◌≤◌, ◌<◌, length};
+ghost use Rattle.std.specs.Prelude.{◌≤◌, ◌<◌};
 
-use console::{Failure, all_are, end_of, front, read_full, say, say_field, say_reading, status};
+use console::{
+    Failure, all_are, for_each_line, front, read_full, say, say_field, say_reading, status,
+};
+use reader::NameFault;
 use std::io;
 use std::io::{Read, Write};
 use std::process::ExitCode;
@@ -24,24 +27,8 @@ const ROOM: usize = 4096;
 // Bytes for the input, or for a work area.
 const LARGE_ROOM: usize = 65536;
 
-// Fills a buffer.
-fn put(buffer: &mut [u8], b: u8) {
-    for byte in buffer.iter_mut() {
-        *byte = b;
-    }
-}
-
-// Copies the front of a buffer.
-fn copy(buffer: &mut [u8], from: &[u8]) {
-    let mut i = 0;
-    while i < buffer.len() {
-        if from.len() <= i {
-            return;
-        }
-        buffer[i] = from[i];
-        i += 1;
-    }
-}
+// The longest list.
+const MOST: usize = 1000;
 
 fn tidy<W: Write>(out: &mut W, well: bool) -> io::Result<()> {
     if !well {
@@ -50,356 +37,241 @@ fn tidy<W: Write>(out: &mut W, well: bool) -> io::Result<()> {
     Ok(())
 }
 
-// After an answer that a search gave: the rows are zero and the rest of the area is as it was.
-fn tidy_area<W: Write>(out: &mut W, work: &[u8], n: usize) -> io::Result<()> {
-    if n <= rules::NAME_LIMIT {
-        let rows = rules::ROW_SIZE * (n + 1);
-        tidy(out, all_are(front(work, rows), 0, 0))?;
-        tidy(out, all_are(work, rows, RUBBISH))?;
-    }
-    Ok(())
+// What a call answers: accepted, found or yes; not so; or why it is refused.
+type Answer = Result<bool, NameFault>;
+
+// The calls of the reader.
+#[derive(Clone, Copy, PartialEq, Eq, Debug)]
+enum Call {
+    Accept,
+    First,
+    Next,
+    Check,
 }
 
-// Whether nothing stands after n entries.
-fn ends_with(mapping: &[u8], n: usize) -> bool {
-    if n <= rules::NAME_LIMIT {
-        return all_are(mapping, mapping::room(n), 0);
-    }
-    false
+// A buffer, of which so many bytes are lent to a call.
+#[derive(Drop)]
+struct Buffer<const N: usize> {
+    bytes: [u8; N],
+    lent: usize,
+    ghost inside: { lent ≤ N },
 }
 
-// What first or next answered to a name of n bytes: a reading, the rest of the mapping wiped; or a number, all of it wiped.
-fn say_answer<W: Write>(
-    out: &mut W,
-    r: u64,
-    n: usize,
-    mapping: &[u8],
-    work: &[u8],
-) -> io::Result<()> {
-    tidy_area(out, work, n)?;
-    if r == 0 {
-        say(out, b" ")?;
-        say_reading(out, mapping, n)?;
-        tidy(out, ends_with(mapping, n))
-    } else {
-        say_field(out, r)?;
-        tidy(out, all_are(mapping, 0, 0))
-    }
-}
-
-// One call of first: its reading, or its number.
-fn ask_first<W: Write>(
-    out: &mut W,
-    sheet: &[u8],
-    name: &[u8],
-    mapping: &mut [u8],
-    work: &mut [u8],
-) -> io::Result<u64> {
-    put(mapping, RUBBISH);
-    put(work, RUBBISH);
-    let r = reader::number(reader::first(sheet, name, mapping, work));
-    say_answer(out, r, name.len(), mapping, work)?;
-    Ok(r)
-}
-
-// One call of next on what the mapping holds: the next reading, or its number.
-fn ask_next<W: Write>(
-    out: &mut W,
-    sheet: &[u8],
-    name: &[u8],
-    mapping: &mut [u8],
-    work: &mut [u8],
-) -> io::Result<u64> {
-    put(work, RUBBISH);
-    let r = reader::number(reader::next(sheet, name, mapping, work));
-    say_answer(out, r, name.len(), mapping, work)?;
-    Ok(r)
-}
-
-// One call of check on what the mapping holds.
-fn ask_check<W: Write>(
-    out: &mut W,
-    sheet: &[u8],
-    name: &[u8],
-    mapping: &[u8],
-    work: &mut [u8],
-) -> io::Result<u64> {
-    put(work, RUBBISH);
-    let r = reader::number(reader::check(sheet, name, mapping, work));
-    tidy_area(out, work, name.len())?;
-    Ok(r)
-}
-
-// Accept, then all readings in order, each checked, with the number that ends the list, and what next answers after that.
-fn list<W: Write>(
-    out: &mut W,
-    sheet: &[u8],
-    name: &[u8],
-    mapping: &mut [u8],
-    work: &mut [u8],
-) -> io::Result<()> {
-    put(work, RUBBISH);
-    say_field(out, reader::number(reader::accept(sheet, name, work)))?;
-    tidy_area(out, work, name.len())?;
-    say(out, b":")?;
-    let mut r = ask_first(out, sheet, name, mapping, work)?;
-    for _ in 0..1000 {
-        if r != 0 {
-            break;
+impl<const N: usize> Buffer<N> {
+    fn new() -> Self {
+        Buffer {
+            bytes: [0; N],
+            lent: N,
         }
-        let checked = ask_check(out, sheet, name, mapping, work)?;
-        tidy(out, checked == 0)?;
-        r = ask_next(out, sheet, name, mapping, work)?;
     }
-    ask_next(out, sheet, name, mapping, work)?;
-    Ok(())
-}
 
-// Check and next on a given sequence, with rubbish after it.
-fn given<W: Write>(
-    out: &mut W,
-    sheet: &[u8],
-    name: &[u8],
-    sequence: &[u8],
-    mapping: &mut [u8],
-    work: &mut [u8],
-) -> io::Result<()> {
-    put(mapping, RUBBISH);
-    copy(mapping, sequence);
-    let checked = ask_check(out, sheet, name, mapping, work)?;
-    say_field(out, checked)?;
-    tidy(out, all_are(mapping, sequence.len(), RUBBISH))?;
-    ask_next(out, sheet, name, mapping, work)?;
-    Ok(())
-}
+    // Lends so many bytes, or all where there are fewer.
+    fn lend(&mut self, size: usize) {
+        self.lent = size.min(N);
+    }
 
-// Accept: the area stays where it is refused.
-fn ask_accept<W: Write>(out: &mut W, sheet: &[u8], name: &[u8], work: &mut [u8]) -> io::Result<()> {
-    put(work, RUBBISH);
-    let r = reader::number(reader::accept(sheet, name, work));
-    say_field(out, r)?;
-    if r < 2 {
-        tidy_area(out, work, name.len())
-    } else {
-        tidy(out, all_are(work, 0, RUBBISH))
+    fn as_slice(&self) -> &[u8] {
+        &self.bytes[..self.lent]
+    }
+
+    fn as_mut_slice(&mut self) -> &mut [u8] {
+        let lent = self.lent;
+        let bytes = &mut self.bytes;
+        &mut bytes[..lent]
     }
 }
 
-// First where it may not search: the area stays, and the mapping is wiped.
-fn refused_first<W: Write>(
-    out: &mut W,
-    sheet: &[u8],
-    name: &[u8],
-    mapping: &mut [u8],
-    work: &mut [u8],
-) -> io::Result<()> {
-    put(work, RUBBISH);
-    put(mapping, RUBBISH);
-    say_field(
-        out,
-        reader::number(reader::first(sheet, name, mapping, work)),
-    )?;
-    tidy(out, all_are(mapping, 0, 0))?;
-    tidy(out, all_are(work, 0, RUBBISH))
+// A sheet, a name, and the buffers that are lent to a call.
+#[derive(Drop)]
+struct Question<'a> {
+    sheet: &'a [u8],
+    name: &'a [u8],
+    mapping: Buffer<ROOM>,
+    work: Buffer<LARGE_ROOM>,
 }
 
-// Next, likewise.
-fn refused_next<W: Write>(
-    out: &mut W,
-    sheet: &[u8],
-    name: &[u8],
-    mapping: &mut [u8],
-    work: &mut [u8],
-) -> io::Result<()> {
-    put(work, RUBBISH);
-    put(mapping, RUBBISH);
-    say_field(
-        out,
-        reader::number(reader::next(sheet, name, mapping, work)),
-    )?;
-    tidy(out, all_are(mapping, 0, 0))?;
-    tidy(out, all_are(work, 0, RUBBISH))
-}
+impl<'a> Question<'a> {
+    fn new(sheet: &'a [u8], name: &'a [u8]) -> Self {
+        Question {
+            sheet,
+            name,
+            mapping: Buffer::new(),
+            work: Buffer::new(),
+        }
+    }
 
-// Check, which leaves its mapping.
-fn refused_check<W: Write>(
-    out: &mut W,
-    sheet: &[u8],
-    name: &[u8],
-    mapping: &mut [u8],
-    work: &mut [u8],
-) -> io::Result<()> {
-    put(work, RUBBISH);
-    put(mapping, RUBBISH);
-    say_field(
-        out,
-        reader::number(reader::check(sheet, name, mapping, work)),
-    )?;
-    tidy(out, all_are(mapping, 0, RUBBISH))?;
-    tidy(out, all_are(work, 0, RUBBISH))
-}
+    // A call's answer, over a work area full of rubbish.
+    fn ask(&mut self, call: Call) -> Answer {
+        let (sheet, name) = (self.sheet, self.name);
+        let mapping = self.mapping.as_mut_slice();
+        let work = self.work.as_mut_slice();
+        work.fill(RUBBISH);
+        match call {
+            Call::Accept => reader::accept(sheet, name, work),
+            Call::First => reader::first(sheet, name, mapping, work),
+            Call::Next => reader::next(sheet, name, mapping, work),
+            Call::Check => reader::check(sheet, name, mapping, work),
+        }
+    }
 
-// All four calls.
-fn ask_all<W: Write>(
-    out: &mut W,
-    sheet: &[u8],
-    name: &[u8],
-    mapping: &mut [u8],
-    work: &mut [u8],
-) -> io::Result<()> {
-    ask_accept(out, sheet, name, work)?;
-    refused_first(out, sheet, name, mapping, work)?;
-    refused_next(out, sheet, name, mapping, work)?;
-    refused_check(out, sheet, name, mapping, work)
-}
+    // After an answer that a search gave: the rows are zero and the rest of the area is as it was.
+    fn tidy_area<W: Write>(&self, out: &mut W) -> io::Result<()> {
+        if self.name.len() <= rules::NAME_LIMIT {
+            let rows = rules::ROW_SIZE * (self.name.len() + 1);
+            tidy(out, all_are(front(self.work.as_slice(), rows), 0, 0))?;
+            tidy(out, all_are(self.work.as_slice(), rows, RUBBISH))?;
+        }
+        Ok(())
+    }
 
-// Where the field after that begins.
-fn after_field(line: &[u8], at: usize) -> usize
-    requires { at ≤ length line.now }
-    ensures { result ≤ length line.now }
-{
-    let e = end_of(line, at, b' ');
-    if e < line.len() { e + 1 } else { e }
+    // Whether nothing stands after the entries of the mapping.
+    fn ends_with_entries(&self) -> bool {
+        let n = self.name.len();
+        n <= rules::NAME_LIMIT && all_are(self.mapping.as_slice(), mapping::room(n), 0)
+    }
+
+    // First or next: a reading, the rest of the mapping wiped; or a number, all of it wiped.
+    fn say_answer<W: Write>(&mut self, out: &mut W, call: Call) -> io::Result<Answer> {
+        let answer = self.ask(call);
+        self.tidy_area(out)?;
+        if answer == Ok(true) {
+            say(out, b" ")?;
+            say_reading(out, self.mapping.as_slice(), self.name.len())?;
+            tidy(out, self.ends_with_entries())?;
+        } else {
+            say_field(out, reader::number(answer))?;
+            tidy(out, all_are(self.mapping.as_slice(), 0, 0))?;
+        }
+        Ok(answer)
+    }
+
+    // Check on what the mapping holds.
+    fn check<W: Write>(&mut self, out: &mut W) -> io::Result<Answer> {
+        let answer = self.ask(Call::Check);
+        self.tidy_area(out)?;
+        Ok(answer)
+    }
+
+    // Accept, then all readings in order, each checked, with the number that ends the list, and what next answers after that.
+    fn list<W: Write>(&mut self, out: &mut W) -> io::Result<()> {
+        say_field(out, reader::number(self.ask(Call::Accept)))?;
+        self.tidy_area(out)?;
+        say(out, b":")?;
+        self.mapping.as_mut_slice().fill(RUBBISH);
+        let mut answer = self.say_answer(out, Call::First)?;
+        for _ in 0..MOST {
+            if answer != Ok(true) {
+                break;
+            }
+            let checked = self.check(out)?;
+            tidy(out, checked == Ok(true))?;
+            answer = self.say_answer(out, Call::Next)?;
+        }
+        let _ = self.say_answer(out, Call::Next)?;
+        Ok(())
+    }
+
+    // Check and next on a given sequence, with rubbish after it.
+    fn given<W: Write>(&mut self, out: &mut W, sequence: &[u8]) -> io::Result<()> {
+        self.mapping.as_mut_slice().fill(RUBBISH);
+        for (entry, byte) in self.mapping.as_mut_slice().iter_mut().zip(sequence) {
+            *entry = *byte;
+        }
+        let checked = self.check(out)?;
+        say_field(out, reader::number(checked))?;
+        tidy(
+            out,
+            all_are(self.mapping.as_slice(), sequence.len(), RUBBISH),
+        )?;
+        let _ = self.say_answer(out, Call::Next)?;
+        Ok(())
+    }
+
+    // Accept: the area stays where it is refused.
+    fn say_accept<W: Write>(&mut self, out: &mut W) -> io::Result<()> {
+        let answer = self.ask(Call::Accept);
+        say_field(out, reader::number(answer))?;
+        match answer {
+            Ok(_) => self.tidy_area(out),
+            Err(_) => tidy(out, all_are(self.work.as_slice(), 0, RUBBISH)),
+        }
+    }
+
+    // A call that may not search: the area stays, and the mapping is full of what it is said to be left with.
+    fn say_refused<W: Write>(&mut self, out: &mut W, call: Call, left: u8) -> io::Result<()> {
+        self.mapping.as_mut_slice().fill(RUBBISH);
+        say_field(out, reader::number(self.ask(call)))?;
+        tidy(out, all_are(self.mapping.as_slice(), 0, left))?;
+        tidy(out, all_are(self.work.as_slice(), 0, RUBBISH))
+    }
+
+    // All four calls: first and next wipe the mapping, check leaves it.
+    fn ask_all<W: Write>(&mut self, out: &mut W) -> io::Result<()> {
+        self.say_accept(out)?;
+        self.say_refused(out, Call::First, 0)?;
+        self.say_refused(out, Call::Next, 0)?;
+        self.say_refused(out, Call::Check, RUBBISH)
+    }
 }
 
 // Field k of a line, from 0.
 fn field(line: &[u8], k: usize) -> &[u8] {
-    let mut at = 0;
-    let mut j = 0;
-    while j < k {
-        at = after_field(line, at);
-        j += 1;
-    }
-    let e = end_of(line, at, b' ');
-    &line[at..e]
+    line.split(|b| *b == b' ').nth(k).unwrap_or(b"")
 }
 
 // The value of a digit.
 fn digit(b: u8) -> u8
     ensures { result < 16 }
 {
-    if b < b'0' {
-        return 0;
+    match b {
+        b'0'..=b'9' => b - b'0',
+        b'a'..=b'f' => b - b'a' + 10,
+        _ => 0,
     }
-    if b <= b'9' {
-        return b - b'0';
-    }
-    if b < b'a' {
-        return 0;
-    }
-    if b <= b'f' {
-        return b - b'a' + 10;
-    }
-    0
 }
 
-// Turns hexadecimal digits into bytes; how many.
-fn unhex(text: &[u8], out: &mut [u8]) -> usize
-    ensures { result ≤ length out.old }
-{
-    let mut k = 0;
-    let mut i = 1;
-    while i < text.len() {
-        if out.len() <= k {
-            return k;
-        }
-        out[k] = digit(text[i - 1]) * 16 + digit(text[i]);
-        k += 1;
-        if text.len() - i < 2 {
-            return k;
-        }
-        i += 2;
+// The bytes that hexadecimal digits stand for, as many as there is room for.
+fn unhex<'a>(text: &[u8], room: &'a mut [u8]) -> &'a [u8] {
+    for (byte, pair) in room.iter_mut().zip(text.chunks_exact(2)) {
+        *byte = digit(pair[0]) * 16 + digit(pair[1]);
     }
-    k
+    front(room, text.len() / 2)
 }
 
-fn digit_value(b: u8) -> usize
-    ensures { result < 16 }
-{
-    digit(b) as usize
-}
-
-// A number in decimal digits, at most `most`.
-fn value(text: &[u8], most: usize) -> usize
-    ensures { result ≤ most }
-{
-    let mut n: usize = 0;
-    let mut i = 0;
-    while i < text.len() {
-        if 100000 < n {
-            break;
-        }
-        n = n * 10 + digit_value(text[i]);
-        i += 1;
-    }
-    if most < n { most } else { n }
+// A number in decimal digits.
+fn value(text: &[u8]) -> usize {
+    text.iter().fold(0usize, |n, b| {
+        n.saturating_mul(10).saturating_add(usize::from(digit(*b)))
+    })
 }
 
 // One case.
-fn case<W: Write>(
-    out: &mut W,
-    line: &[u8],
-    sheet: &mut [u8],
-    name: &mut [u8],
-    mapping: &mut [u8],
-    work: &mut [u8],
-) -> io::Result<()> {
+fn case<W: Write>(out: &mut W, line: &[u8]) -> io::Result<()> {
     say(out, field(line, 1))?;
-    let s = unhex(field(line, 2), sheet);
-    let n = unhex(field(line, 3), name);
-    case_of(out, line, &sheet[0..s], &name[0..n], mapping, work)?;
+    let mut sheet_room = [0u8; ROOM];
+    let mut name_room = [0u8; ROOM];
+    let mut question = Question::new(
+        unhex(field(line, 2), &mut sheet_room),
+        unhex(field(line, 3), &mut name_room),
+    );
+    match line.first() {
+        None => {}
+        Some(b'L') => question.list(out)?,
+        Some(b'G') => {
+            let mut room = [0u8; 8];
+            question.given(out, unhex(field(line, 4), &mut room))?;
+        }
+        Some(_) => {
+            question.mapping.lend(value(field(line, 4)));
+            question.work.lend(value(field(line, 5)));
+            question.ask_all(out)?;
+        }
+    }
     say(out, b"\n")
 }
 
-fn case_of<W: Write>(
-    out: &mut W,
-    line: &[u8],
-    sheet: &[u8],
-    name: &[u8],
-    mapping: &mut [u8],
-    work: &mut [u8],
-) -> io::Result<()> {
-    if line.len() == 0 {
-        return Ok(());
-    }
-    let kind = line[0];
-    if kind == b'L' {
-        return list(out, sheet, name, mapping, work);
-    }
-    if kind == b'G' {
-        let mut sequence = [0u8; 8];
-        let q = unhex(field(line, 4), &mut sequence);
-        return given(out, sheet, name, &sequence[0..q], mapping, work);
-    }
-    let m = value(field(line, 4), mapping.len());
-    let w = value(field(line, 5), work.len());
-    ask_all(out, sheet, name, &mut mapping[0..m], &mut work[0..w])
-}
-
-fn run<W: Write>(
-    out: &mut W,
-    input: &[u8],
-    sheet: &mut [u8],
-    name: &mut [u8],
-    mapping: &mut [u8],
-    work: &mut [u8],
-) -> io::Result<()> {
-    let mut at = 0;
-    while at < input.len() {
-        let e = end_of(input, at, b'\n');
-        case(out, &input[at..e], sheet, name, mapping, work)?;
-        at = e + 1;
-    }
-    Ok(())
-}
-
-// All cases, in buffers that each has in turn.
 fn run_all<W: Write>(out: &mut W, input: &[u8]) -> io::Result<()> {
-    let mut sheet = [0u8; ROOM];
-    let mut name = [0u8; ROOM];
-    let mut mapping = [0u8; ROOM];
-    let mut work = [0u8; LARGE_ROOM];
-    run(out, input, &mut sheet, &mut name, &mut mapping, &mut work)
+    for_each_line(input, |line| case(out, line))
 }
 
 fn read_and_run<R: Read, W: Write>(input: &mut R, out: &mut W) -> Result<(), Failure> {

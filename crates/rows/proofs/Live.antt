@@ -1,13 +1,13 @@
 -- What a row holds, from the row after it: the steps by which rows are filled from the right.
 use mathlib.Core.Path.{◌≡◌, refl, sym, ◌∙◌}
 use mathlib.Core.Logic.{by_cases}
-use mathlib.Core.Bool.{Bool, true, false, true≢false, cond, ◌&&◌}
+use mathlib.Core.Bool.{Bool, true, false, true≢false, ◌&&◌}
 use mathlib.Core.List.{List, [], ◌∷◌}
 use Prim.Native.Nat.{ℕ, suc, ◌+◌, ◌*◌, ◌-◌, ◌<◌, ◌≤◌}
 use native.Mathlib.Decide.{ℕ_discrete}
 use native.Mathlib.Numerals.{add-one}
 use native.Mathlib.Omega.{arith}
-use lib.Dec.{T, ltb, leb, leb→le, le→leb, eqb}
+use lib.Dec.{T, ltb, leb, leb→le, le→leb}
 use lib.ListN.{length, get_or, drop}
 use lib.Seq.{drop-cons, drop-drop, drop-length}
 use Rattle.rules.specs.Limits.{row_size}
@@ -18,7 +18,8 @@ use Rattle.language.specs.Follow.{step, stop}
 use Rattle.language.specs.Search.{pick, good, ok_in, accepts}
 use Rattle.language.proofs.Decides.{and_left, and_right, and_in}
 use Rattle.language.proofs.Search.{Pick, found, nowhere, pick_view, picked}
-use Rattle.bits.specs.Sets.{has, row_has, share}
+use Rattle.bits.specs.declared.Set.{Set}
+use Rattle.bits.specs.Sets.{empty_set, member, has, row_has, share}
 use Rattle.bits.proofs.Shares.{share_in, share_out}
 use Rattle.automaton.specs.Tables.{Follows, Stops, Letters, letter_of, takes_at}
 use Rattle.rows.specs.Rows.{readable, can, Live, LastLive, row_at, RowOf, RowsOf}
@@ -81,38 +82,47 @@ module _ (P : Pattern) (b : ℕ) (bs : List ℕ) where
       })
 
   -- after p, b and then bs can be read exactly if a follower of p is in the row for b
-  module _ (follow after : List ℕ) (f : Follows P follow) (row : (q : ℕ) → has after 0 q ≡ can P b bs q) where
-    pub share-readable : (p : ℕ) → share follow p after 0 ≡ readable P (b ∷ bs) p
-    share-readable p = go (share follow p after 0) refl
+  module _ (follow : List Set) (after : Set) (f : Follows P follow) (row : (q : ℕ) → member after q ≡ can P b bs q) where
+    abbrev of : ℕ → Set
+    of p = get_or follow p empty_set
+
+    steps : (p q : ℕ) → member (of p) q ≡ step P.tree p q
+    unfolding has
+    steps p q = f p q
+
+    pub share-readable : (p : ℕ) → share (of p) after ≡ readable P (b ∷ bs) p
+    share-readable p = go (share (of p) after) refl
       where
-        none : (m : ℕ) → Pick (fine p) 1 (1 + L) m → share follow p after 0 ≡ false → ltb 0 m ≡ false
+        none : (m : ℕ) → Pick (fine p) 1 (1 + L) m → share (of p) after ≡ false → ltb 0 m ≡ false
         none m (found i g n) e =
-            absurd (true≢false (sym (share_in follow p after 0 m (f p m ∙ true_T (step P.tree p m) (choice_step p m g)) (row m ∙ true_T (can P b bs m) (choice_can p m i g))) ∙ e))
+            absurd (true≢false (sym
+            (share_in (of p) after m (steps p m ∙ true_T (step P.tree p m) (choice_step p m g)) (row m ∙ true_T (can P b bs m) (choice_can p m i g))) ∙ e))
         none m (nowhere n) e = refl
 
-        go : (s : Bool) → share follow p after 0 ≡ s → s ≡ readable P (b ∷ bs) p
+        go : (s : Bool) → share (of p) after ≡ s → s ≡ readable P (b ∷ bs) p
         go true e =
-            let (q, (u, v)) = share_out follow p after 0 e in
-            let (i, g) = choice_to p q (T_true _ (sym (f p q) ∙ u)) (T_true _ (sym (row q) ∙ v)) in
+            let (q, (u, v)) = share_out (of p) after e in
+            let (i, g) = choice_to p q (T_true _ (sym (steps p q) ∙ u)) (T_true _ (sym (row q) ∙ v)) in
             sym (true_T _ (picked (fine p) 1 L q (omega arith) i g))
         go false e = sym (none (pick (fine p) 1 L) (pick_view (fine p) 1 L) e)
 
   -- a row from the row after it
-  pub live-step : (follow letters after kept row rows : List ℕ) (byte : ℕ) → Follows P follow → Letters P letters
-      → ((x : ℕ) → has after 0 x ≡ row_has rows x)
-      → ((x : ℕ) → has kept 0 x ≡ (has letters (letter_of byte) x && share follow x after 0))
-      → ((x : ℕ) → row_has row x ≡ has kept 0 x)
+  pub live_step : (follow letters : List Set) (taking after kept : Set) (row rows : List ℕ) (byte : ℕ) → Follows P follow → Letters P letters
+      → ((x : ℕ) → member taking x ≡ has letters (letter_of byte) x)
+      → ((x : ℕ) → member after x ≡ row_has rows x)
+      → ((x : ℕ) → member kept x ≡ (member taking x && share (get_or follow x empty_set) after))
+      → ((x : ℕ) → row_has row x ≡ member kept x)
       → Live P b bs rows → Live P byte (b ∷ bs) row
-  live-step follow letters after kept row rows byte f l a k s old q =
-      s q ∙ k q ∙ rw (l byte q, share-readable follow after f (λ x. a x ∙ old x) q) refl
+  live_step follow letters taking after kept row rows byte f l t a k s old q =
+      s q ∙ k q ∙ rw (t q, l byte q, share-readable follow after f (λ x. a x ∙ old x) q) refl
 
 -- the row of the last place
-pub live-last : (P : Pattern) (stops letters copy both row : List ℕ) (byte : ℕ) → Stops P stops → Letters P letters
-    → ((p x : ℕ) → has both p x ≡ cond (eqb p 0) (has copy p x && has stops 0 x) (has copy p x))
-    → ((x : ℕ) → has copy 0 x ≡ has letters (letter_of byte) x)
-    → ((x : ℕ) → row_has row x ≡ has both 0 x)
+pub live-last : (P : Pattern) (stops : Set) (letters : List Set) (taking both : Set) (row : List ℕ) (byte : ℕ) → Stops P stops → Letters P letters
+    → ((x : ℕ) → member taking x ≡ has letters (letter_of byte) x)
+    → ((x : ℕ) → member both x ≡ (member taking x && member stops x))
+    → ((x : ℕ) → row_has row x ≡ member both x)
     → LastLive P byte row
-live-last P stops letters copy both row byte e l c a s q = s q ∙ c 0 q ∙ rw (a q, l byte q, e q) refl
+live-last P stops letters taking both row byte e l t c s q = s q ∙ c q ∙ rw (t q, l byte q, e q) refl
 
 -- ---- all rows
 
@@ -142,11 +152,13 @@ module _ (P : Pattern) (name : List ℕ) where
 
 -- ---- whether there is a reading
 
-module _ (P : Pattern) (follow stops : List ℕ) (f : Follows P follow) (s : Stops P stops) where
-  pub begins-empty : (name : List ℕ) → length name ≡ 0 → has stops 0 0 ≡ accepts P name
-  begins-empty [] e = s 0
-  begins-empty (b ∷ bs) e = absurd (omega arith)
+module _ (P : Pattern) where
+  pub begins-empty : (stops : Set) (name : List ℕ) → Stops P stops → length name ≡ 0 → member stops 0 ≡ accepts P name
+  begins-empty stops [] s e = s 0
+  begins-empty stops (b ∷ bs) s e = absurd (omega arith)
 
-  pub begins_some : (name work after : List ℕ) → (length name ≡ 0 → ⊥) → RowsOf P name work → ((x : ℕ) → has after 0 x ≡ row_has work x) → share follow 0 after 0 ≡ accepts P name
-  begins_some [] work after n r a = absurd (n refl)
-  begins_some (b ∷ bs) work after n r a = share-readable P b bs follow after f (λ q. a q ∙ r 0 (omega arith) q) 0
+  pub begins_some : (follow : List Set) (after : Set) (name work : List ℕ) → Follows P follow → (length name ≡ 0 → ⊥) → RowsOf P name work
+      → ((x : ℕ) → member after x ≡ row_has work x)
+      → share (get_or follow 0 empty_set) after ≡ accepts P name
+  begins_some follow after [] work f n r a = absurd (n refl)
+  begins_some follow after (b ∷ bs) work f n r a = share-readable P b bs follow after f (λ q. a q ∙ r 0 (omega arith) q) 0

@@ -6,12 +6,18 @@ use native.Mathlib.Omega.{arith}
 use lib.ListN.{length, get_or, take, drop, length-drop, drop_of_length-le}
 use lib.Seq.{take_all, drop_at, drop-drop, get_or-drop, length-take-le, ext_get_or}
 use Rattle.rules.specs.Limits.{row_size}
+use Rattle.bits.specs.Sets.{set_bytes}
 use Rattle.rows.specs.Rows.{row_at}
 
 -- bytes that are the same one by one from n on
 pub drop-same : (n m : ℕ) (xs ys : List ℕ) → length ys ≡ length xs → n ≤ m → ((i : ℕ) → n ≤ i → get_or ys i 0 ≡ get_or xs i 0) → drop m ys ≡ drop m xs
 drop-same n m xs ys e h f =
     ext_get_or 0 (drop m ys) (drop m xs) (rw (length-drop m ys, length-drop m xs, e) refl) (λ i l. rw (get_or-drop m ys i 0, get_or-drop m xs i 0) (f (m + i) (omega arith)))
+
+-- all after a set is as it was
+pub rest_same : (xs ys : List ℕ) → length ys ≡ length xs → ((i : ℕ) → set_bytes ≤ i → get_or ys i 0 ≡ get_or xs i 0)
+    → drop row_size ys ≡ drop row_size xs
+rest_same xs ys e f = drop-same set_bytes row_size xs ys e (omega arith) f
 
 -- the rest of a slice, as it is lent
 pub rest_of : (xs : List ℕ) (a : ℕ) → take (length xs - a) (drop a xs) ≡ drop a xs

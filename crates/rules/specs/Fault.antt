@@ -1,7 +1,28 @@
--- Why a text is refused: a number and a place (with 18 the length needed), as one record from the lexer to the export.
-use Rattle.std.specs.Prelude.{ℕ}
+-- Why a text is refused: a fault and a place (with 18 the length needed), as one record from the lexer to the export.
+use Rattle.std.specs.Prelude.{◌≡◌, ℕ}
+use Rattle.std.proofs.Math.Option.{Option, some}
+use Rattle.rules.specs.Numbers.{text_long, text_byte, operand_missing, close_unopened, open_unclosed, open_deep, leaves_many, nodes_many, sheet_short, repeat_fault}
+use Rattle.rules.specs.declared.TextFault.{TextFault}
+use Rattle.rules.specs.declared.TextFault.TheVariants.{TextLong, TextByte, OperandMissing, CloseUnopened, OpenUnclosed, OpenDeep, LeavesMany, NodesMany, SheetShort, RepeatFault}
 use Rattle.rules.specs.declared.Refusal.{Refusal}
 
--- refused at a place with a number
-abbrev pub at : ℕ → ℕ → Refusal
-at i k = record { number = k; place = i }
+-- the number of a fault
+abbrev pub text_fault_number : TextFault → ℕ
+text_fault_number TextLong = text_long
+text_fault_number TextByte = text_byte
+text_fault_number OperandMissing = operand_missing
+text_fault_number CloseUnopened = close_unopened
+text_fault_number OpenUnclosed = open_unclosed
+text_fault_number OpenDeep = open_deep
+text_fault_number LeavesMany = leaves_many
+text_fault_number NodesMany = nodes_many
+text_fault_number SheetShort = sheet_short
+text_fault_number RepeatFault = repeat_fault
+
+-- refused at a place for a fault
+abbrev pub at : ℕ → TextFault → Refusal
+at i f = record { fault = f; place = i }
+
+-- the refusal that has this number and this place
+abbrev pub RefusedAs : Option Refusal → ℕ → ℕ → Type 0
+RefusedAs o k i = (f : TextFault) × (text_fault_number f ≡ k) × (o ≡ some (at i f))

@@ -1,6 +1,8 @@
 -- Every number and second number fits its room, and so a packed answer says what the call answered.
-use mathlib.Core.Path.{◌≡◌, refl, ap, ◌∙◌}
+use mathlib.Core.Path.{◌≡◌, refl}
 use mathlib.Core.List.{List}
+use mathlib.Core.Bool.{Bool, true, false}
+use Rattle.std.specs.Prelude.{Result, Ok, Err}
 use Prim.Native.Nat.{ℕ, ◌<◌}
 use native.Mathlib.Omega.{arith}
 use Rattle.rules.specs.Grounds.{refused, answered}
@@ -8,13 +10,11 @@ use Rattle.sheet.specs.declared.SheetFault.{SheetFault}
 use Rattle.sheet.specs.declared.SheetFault.TheVariants.{SheetForm, SheetLength, SheetLeaves, SheetByte, WaitingFew, WaitingEnd, WaitingMany, LeavesUnequal}
 use Rattle.sheet.specs.Answer.{fault_number}
 use Rattle.text.specs.Outcome.{SheetEnd, made, short, SheetCall}
-use Rattle.sheet_call.specs.declared.SheetAnswer.{SheetAnswer}
-use Rattle.sheet_call.specs.Answer.{sheet_end}
 use Rattle.text.proofs.Numbers.{text_number}
 use Rattle.text.proofs.Places.{place_small, sheet_small}
 use Rattle.reader.specs.Outcome.{End}
-use Rattle.reader.specs.declared.Answer.{Answer}
-use Rattle.reader.specs.declared.Answer.TheVariants.{Done, No, Sheet, NameLong, MappingShort, WorkShort, NoReading}
+use Rattle.reader.specs.declared.NameFault.{NameFault}
+use Rattle.reader.specs.declared.NameFault.TheVariants.{Sheet, NameLong, MappingShort, WorkShort, NoReading}
 use Rattle.reader.specs.Answer.{number_of, end_of}
 use Rattle.satchelram.specs.Packing.{number_room, second_room, packed, number_in, second_in}
 use Rattle.satchelram.specs.Exported.{sheet_end_in, end_in, Exports}
@@ -39,14 +39,14 @@ fault_small WaitingEnd = omega arith
 fault_small WaitingMany = omega arith
 fault_small LeavesUnequal = omega arith
 
-pub number_small : (a : Answer) → number_of a < number_room
-number_small Done = omega arith
-number_small No = omega arith
-number_small (Sheet f) = fault_small f
-number_small NameLong = omega arith
-number_small MappingShort = omega arith
-number_small WorkShort = omega arith
-number_small NoReading = omega arith
+pub number_small : (a : Result Bool NameFault) → number_of a < number_room
+number_small (Ok true) = omega arith
+number_small (Ok false) = omega arith
+number_small (Err (Sheet f)) = fault_small f
+number_small (Err NameLong) = omega arith
+number_small (Err MappingShort) = omega arith
+number_small (Err WorkShort) = omega arith
+number_small (Err NoReading) = omega arith
 
 -- a packed answer exports the outcome that was packed
 module _ (outcome : ℕ → ℕ → Type 0) (number second answer : ℕ) (fits : Fits number second) (e : answer ≡ packed number second 0) (goes : outcome number second) where
@@ -56,19 +56,13 @@ module _ (outcome : ℕ → ℕ → Type 0) (number second answer : ℕ) (fits :
       rw e (record { goes = rw (u.first, u.then) goes; whole = rw (u.first, u.then) refl })
 
 -- a name call's answer, packed
-pub name_exports : (call : End → Type 0) (a : Answer) (mapping work : List ℕ) (n answer : ℕ) → n ≡ number_of a → answer ≡ packed n 0 0 → call (end_of a mapping work)
+pub name_exports : (call : End → Type 0) (a : Result Bool NameFault) (mapping work : List ℕ) (answer : ℕ) → answer ≡ packed (number_of a) 0 0 → call (end_of a mapping work)
     → Exports (call (end_in answer mapping work)) answer
-name_exports call a mapping work n answer d e goes =
-    exports (λ k i. call (record { number = k; second = i; mapping = mapping; work = work })) (number_of a) 0 answer
-    (record { low = number_small a; high = omega arith }) (e ∙ ap (λ (k : ℕ). packed k 0 0) d) goes
+name_exports call a mapping work answer e goes =
+    exports (λ k i. call (record { number = k; second = i; mapping = mapping; work = work })) (number_of a) 0 answer (record { low = number_small a; high = omega arith }) e goes
 
 -- the sheet call's answer: its parts fit, and packed they export it
-module _ (text buffer sheet : List ℕ) (a : SheetAnswer) (number second : ℕ) (d : sheet_end a sheet ≡ record { number = number; second = second; sheet = sheet }) (goes : SheetCall text buffer (sheet_end a sheet)) where
-  told : SheetCall text buffer (record { number = number; second = second; sheet = sheet })
-  told = rw d at goes
-
-  pub parts_fit : Fits number second
-  parts_fit = sheet-fits text buffer (record { number = number; second = second; sheet = sheet }) told
-
-  pub sheet_exports : (answer : ℕ) → answer ≡ packed number second 0 → Exports (SheetCall text buffer (sheet_end_in answer sheet)) answer
-  sheet_exports answer e = exports (λ k i. SheetCall text buffer (record { number = k; second = i; sheet = sheet })) number second answer parts_fit e told
+pub sheet_exports : (text buffer : List ℕ) (s : SheetEnd) {answer : ℕ} → SheetCall text buffer s → answer ≡ packed s.number s.second 0
+    → Exports (SheetCall text buffer (sheet_end_in answer s.sheet)) answer
+sheet_exports text buffer s {answer} goes e =
+    exports (λ k i. SheetCall text buffer (record { number = k; second = i; sheet = s.sheet })) s.number s.second answer (sheet-fits text buffer s goes) e goes

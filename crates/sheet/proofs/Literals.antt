@@ -1,72 +1,31 @@
 -- Form 1: what its functions read, refuse and write, what a sheet that passes 21 to 23 has, and the parts of a sheet laid out.
 use mathlib.Core.Path.{◌≡◌, refl, ap, sym, ◌∙◌}
-use mathlib.Core.Bool.{Bool, true, false, not, ◌||◌}
-use mathlib.Core.Option.{none, some}
+use mathlib.Core.Bool.{Bool, false, not, ◌||◌}
+use mathlib.Core.Option.{none}
 use mathlib.Core.List.{List, [], ◌∷◌, ◌++◌, append_assoc}
 use Prim.Native.Nat.{ℕ, zero, suc, ◌+◌, ◌-◌, ◌<◌, ◌≤◌}
 use native.Mathlib.Omega.{arith}
 use lib.Dec.{eqb, ltb}
-use lib.ListN.{length, get_or, take, drop, set, length-append, length-drop, drop_of_length-le, get_or-eq_default}
-use lib.Seq.{sets, sets-eq, length-sets, take_all, take_at, length-take-le, get_or-take, get_or-drop, take-append_seam, drop-append-add, get_or-append_seam}
-use borrow.Author.Tests.{ltb-false, leb-false, eqb-true, not-false, lt-ltb, le-ltb, le-leb, lt-leb, eq-eqb}
+use borrow.Rule.Slice.PartMut.{put_mid}
+use lib.ListN.{length, get_or, take, drop, set, length-append, length-drop, length-set}
+use lib.Seq.{sets, sets-eq, length-sets, take_at, length-take-le, drop-drop, get_or-take, get_or-drop, take-append_seam, drop-append-add, get_or-append_seam}
+use borrow.Author.Tests.{ltb-false, leb-false, eqb-true, not-false, le-ltb, lt-leb, eq-eqb}
 use Rattle.rules.specs.Limits.{byte_values, leaf_limit, node_limit, lowest_byte, highest_byte, outside, filled}
-use Rattle.rules.specs.Numbers.{sheet_length, sheet_leaves, sheet_byte}
 use Rattle.rules.specs.Grounds.{first_of}
 use Rattle.rules.proofs.Grounds.{passed, not_because}
 use Rattle.rules.proofs.Truth.{or_false_left, or_false_right}
-use Rattle.buffers.specs.Wrote.{Wrote}
-use Rattle.buffers.proofs.Stores.{wrote_one, wrote_both}
+use Rattle.buffers.proofs.Stores.{sets-append}
 use Rattle.sheet.specs.Nodes.{highest_node, any_of}
 use Rattle.sheet.specs.Form1.{form_one, literal_count, literal_bytes, node_count, node_part, length_for, literal, absent, length_wrong, byte_wrong, literal_grounds, laid_out}
 
 -- READING
 module _ (s : List ℕ) where
-  pub no-count : length s < 2 → 0 ≡ literal_count s
-  no-count h = sym (get_or-eq_default s 0 {n = 1} (omega arith))
+  pub all_literals : (l : ℕ) → l ≡ literal_count s → take (2 + l - 2) (drop 2 s) ≡ literal_bytes s
+  all_literals l e = let f : 2 + l - 2 ≡ literal_count s = omega arith in rw f refl
 
-  -- the parts, where the code has read the count
-  module _ (l : ℕ) (e : l ≡ literal_count s) where
-    pub no-nodes : length s < 3 + l → [] ≡ node_part s
-    no-nodes h = let beyond : length s ≤ 3 + literal_count s = omega arith in sym (drop_of_length-le s {i = 3 + literal_count s} beyond)
-
-    pub all_nodes : take (length s - (3 + l)) (drop (3 + l) s) ≡ node_part s
-    all_nodes = rw e (take_all (length s - (3 + literal_count s)) (node_part s) (simp length-drop (omega arith)))
-
-    pub all_literals : take (2 + l - 2) (drop 2 s) ≡ literal_bytes s
-    all_literals = let f : 2 + l - 2 ≡ literal_count s = omega arith in rw f refl
-
--- REFUSING
-module _ (s : List ℕ) where
-  pub is_short : length s < 2 → true ≡ length_wrong s
-  is_short h = let k : length s ≤ 1 = omega arith in rw (le-leb (length s) 1 k) refl
-
-  module _ (l : ℕ) (e : l ≡ literal_count s) (counted : 2 ≤ length s) where
-    pub is_cut : length s ≤ 2 + l → true ≡ length_wrong s
-    is_cut h =
-        let one : 1 < length s = omega arith in
-        let two : length s ≤ 2 + literal_count s = omega arith in
-        rw (lt-leb (length s) 1 one, le-leb (length s) (2 + literal_count s) two) refl
-
-    pub is_other_length : (n : ℕ) → n ≡ get_or s (2 + l) 0 → 2 + l < length s → not (eqb (length s) (3 + l + n)) ≡ length_wrong s
-    is_other_length n f h =
-        let one : 1 < length s = omega arith in
-        let two : 2 + literal_count s < length s = omega arith in
-        let here : n ≡ node_count s = rw (← e) f in
-        rw (lt-leb (length s) 1 one, lt-leb (length s) (2 + literal_count s) two, e, here) refl
-
-  pub is_21 : length_wrong s ≡ true → some sheet_length ≡ first_of (literal_grounds s)
-  is_21 e = rw e refl
-
-  module _ (fits : length_wrong s ≡ false) where
-    pub is_22 : leaf_limit < literal_count s → some sheet_leaves ≡ first_of (literal_grounds s)
-    is_22 h = rw (fits, lt-ltb leaf_limit (literal_count s) h) refl
-
-    module _ (few : literal_count s ≤ leaf_limit) where
-      pub is_23 : byte_wrong s ≡ true → some sheet_byte ≡ first_of (literal_grounds s)
-      is_23 e = rw (fits, le-ltb leaf_limit (literal_count s) few, e) refl
-
-      pub is_right : byte_wrong s ≡ false → none ≡ first_of (literal_grounds s)
-      is_right e = rw (fits, le-ltb leaf_limit (literal_count s) few, e) refl
+-- PASSING
+is_right : (s : List ℕ) → length_wrong s ≡ false → literal_count s ≤ leaf_limit → byte_wrong s ≡ false → first_of (literal_grounds s) ≡ none
+is_right s fits few right = rw (fits, le-ltb leaf_limit (literal_count s) few, right) refl
 
 -- WHAT PASSES
 pub is_so : (a b : ℕ) → not (eqb a b) ≡ false → a ≡ b
@@ -150,36 +109,47 @@ module _ (xs ns : List ℕ) where
       let long : length_wrong (laid_out xs ns) ≡ false =
       rw (lt-leb (length (laid_out xs ns)) 1 counted, lt-leb (length (laid_out xs ns)) (2 + length xs) further, eq-eqb (length (laid_out xs ns)) (length_for (length xs) (node_count (laid_out xs ns))) fits) refl in
       let right : byte_wrong (laid_out xs ns) ≡ false = rw (laid_literals, plain, laid_nodes, known) refl in
-      sym (is_right (laid_out xs ns) long few right)
+      is_right (laid_out xs ns) long few right
 
 -- WRITING
+-- a part of a buffer, written whole
+stored : (a k : ℕ) (buffer xs : List ℕ) → length xs ≡ k → a + k ≤ length buffer → put_mid a k buffer xs ≡ sets buffer a xs
+stored a k buffer xs e h =
+    let within : a + length xs ≤ length buffer = omega arith in
+    rw (sets-eq xs buffer a within, e, drop-drop k a buffer) (sym (append_assoc (take a buffer) xs (drop (a + k) buffer)))
+
 -- bytes stored from the start stand in front
 sets-front : (xs vs : List ℕ) → length vs ≤ length xs → sets xs 0 vs ≡ vs ++ drop (length vs) xs
 sets-front xs vs h =
     let z : 0 + length vs ≡ length vs = omega arith in
     rw z at (sets-eq vs xs 0 (omega arith))
 
-module _ (buffer xs : List ℕ) (l : ℕ) (ns : List ℕ) (m : ℕ) (p : length xs ≡ l) (q : length ns ≡ m) where
-  -- the stores one after the other
-  laid : (c e : List ℕ) → c ≡ sets (set (set buffer 0 form_one) 1 l) 2 xs → e ≡ sets (set c (2 + l) m) (3 + l) ns → e ≡ sets buffer 0 (laid_out xs ns)
-  laid c e w y =
-      let a = set buffer 0 form_one in
-      let i : 2 + l + 1 ≡ 3 + l = omega arith in
-      let head = wrote_both (wrote_one 0 buffer a form_one refl) (wrote_one 1 a (set a 1 l) l refl) in
-      let some : Wrote 2 (set a 1 l) (2 + l) c xs = record { count = omega arith; bytes = w } in
-      let more : Wrote (3 + l) (set c (2 + l) m) (3 + l + m) e ns = record { count = omega arith; bytes = y } in
-      let count : Wrote (2 + l) c (3 + l) (set c (2 + l) m) (m ∷ []) = rw i at (wrote_one (2 + l) c (set c (2 + l) m) m refl) in
-      let all = wrote_both (wrote_both (wrote_both head some) count) more in
-      rw (p, q) (all.bytes ∙ ap (λ (vs : List ℕ). sets buffer 0 (form_one ∷ l ∷ vs)) (append_assoc xs (m ∷ []) ns))
+-- the sheet's parts stored one after the other, and zeros after them
+module _ (buffer xs ns : List ℕ) (h : length_for (length xs) (length ns) ≤ length buffer) where
+  abbrev counted : List ℕ
+  counted = set (set buffer 0 form_one) 1 (length xs)
 
-  -- and zeros to the end
-  pub laid_filled : {c e f : List ℕ} → length_for l m ≤ length buffer → c ≡ sets (set (set buffer 0 form_one) 1 l) 2 xs → e ≡ sets (set c (2 + l) m) (3 + l) ns
-      → f ≡ filled e (take (length_for l m) e) → f ≡ filled buffer (laid_out xs ns)
-  laid_filled {c} {e} h x y v =
+  abbrev lettered : List ℕ
+  lettered = set (put_mid 2 (2 + length xs - 2) counted xs) (2 + length xs) (length ns)
+
+  abbrev whole : List ℕ
+  whole = put_mid (2 + length xs + 1) (length_for (length xs) (length ns) - (2 + length xs + 1)) lettered ns
+
+  laid : whole ≡ sets buffer 0 (laid_out xs ns)
+  laid =
+      let one : length counted ≡ length buffer = simp length-set in
+      let some = stored 2 (2 + length xs - 2) counted xs (omega arith) (omega arith) in
+      let two : length lettered ≡ length buffer = simp (length-set, some, length-sets) in
+      let more = stored (2 + length xs + 1) (length_for (length xs) (length ns) - (2 + length xs + 1)) lettered ns (omega arith) (omega arith) in
+      let next : 2 + length xs + 1 ≡ suc (2 + length xs) = omega arith in
+      more ∙ rw (some, next) (sym (sets-append counted 2 xs (length ns ∷ ns)))
+
+  pub laid_filled : {after : List ℕ} → after ≡ filled whole (take (length_for (length xs) (length ns)) whole) → after ≡ filled buffer (laid_out xs ns)
+  laid_filled e =
       let sheet = laid_out xs ns in
-      let long : length (laid_out xs ns) ≡ length_for l m = omega (arith, laid_length xs ns) in
-      let u = laid c e x y in
-      let same : length e ≡ length buffer = ap length u ∙ length-sets buffer 0 sheet in
-      let front : e ≡ sheet ++ drop (length sheet) buffer = u ∙ sets-front buffer sheet (omega arith) in
-      let taken : take (length_for l m) e ≡ sheet = rw (← long, front) (take_at sheet (drop (length sheet) buffer) (length sheet) refl) in
-      v ∙ rw (taken, same) refl
+      let end = length_for (length xs) (length ns) in
+      let long = laid_length xs ns in
+      let same : length whole ≡ length buffer = ap length laid ∙ length-sets buffer 0 sheet in
+      let front : whole ≡ sheet ++ drop (length sheet) buffer = laid ∙ sets-front buffer sheet (omega arith) in
+      let taken : take end whole ≡ sheet = ap (take end) front ∙ take_at sheet (drop (length sheet) buffer) end long in
+      e ∙ rw (taken, same) refl

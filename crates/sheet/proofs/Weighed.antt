@@ -3,7 +3,7 @@ use mathlib.Core.Path.{◌≡◌, refl, sym, ◌∙◌}
 use mathlib.Core.Bool.{Bool, true, false, ◌&&◌, ◌||◌}
 use mathlib.Core.Option.{none}
 use mathlib.Core.List.{List, map}
-use Prim.Native.Nat.{ℕ, zero, suc, ◌+◌, ◌-◌, ◌*◌, ◌<◌, ◌≤◌}
+use Prim.Native.Nat.{ℕ, suc, ◌+◌, ◌-◌, ◌*◌, ◌<◌, ◌≤◌}
 use native.Mathlib.Numerals.{add-one}
 use native.Mathlib.Omega.{arith}
 use lib.Dec.{eqb, leb, ltb}
@@ -17,33 +17,6 @@ use Rattle.sheet.specs.Nodes.{Node, a_leaf, an_empty, a_cat, a_union, a_star, no
 use Rattle.sheet.specs.Refusals.{node_grounds}
 use Rattle.sheet.specs.Weights.{one_waiting, none_waiting, weight_of}
 use Rattle.sheet.proofs.FewWait.{never_too_many}
-
-most : (n : Node) → weight_of n ≤ 2 * one_waiting + 1
-most a_leaf = omega arith
-most an_empty = omega arith
-most a_cat = omega arith
-most a_union = omega arith
-most a_star = omega arith
-most no_node = omega arith
-
--- the weight of a node by its byte, for the bytes that the code tells apart
-abbrev pub Weighs : ℕ → ℕ → Type 0
-Weighs b w = (w ≡ weight_of (node_of b)) × (w ≤ 2 * one_waiting + 1)
-
-pub weighs : {b k : ℕ} → b ≡ k → Weighs b (weight_of (node_of k))
-weighs {k = k} e = rw e (refl, most (node_of k))
-
--- and for all others, which take one subtree each
-abbrev NoneOf : ℕ → Type 0
-NoneOf b = (((Unit {0} × (b ≡ 0 → ⊥)) × (b ≡ 1 → ⊥)) × (b ≡ 2 → ⊥)) × (b ≡ 3 → ⊥)
-
-pub star_weighs : (b : ℕ) → NoneOf b → Weighs b one_waiting
-star_weighs zero n = absurd (n.0.0.0.1 refl)
-star_weighs (suc zero) n = absurd (n.0.0.1 refl)
-star_weighs (suc (suc zero)) n = absurd (n.0.1 refl)
-star_weighs (suc (suc (suc zero))) n = absurd (n.1 refl)
-star_weighs (suc (suc (suc (suc zero)))) n = (refl, omega arith)
-star_weighs (suc (suc (suc (suc (suc b))))) n = (refl, omega arith)
 
 -- before node i: so many wait and so many leaves were seen, and what is left says the same as the whole
 pub record Weighed (xs : List ℕ) (i sum : ℕ) : Type 0 where
@@ -115,9 +88,9 @@ pub passing-none : (xs : List ℕ) → Passing xs 0 none_waiting true
 passing-none xs = record { inside = omega arith; low = omega arith; high = omega arith; weighed = λ e. weighed_none xs }
 
 module _ {xs : List ℕ} {i sum : ℕ} {fine : Bool} (c : Passing xs i sum fine) where
-  pub passing_on : {w : ℕ} → i < length xs → length xs ≤ node_limit → Weighs (get_or xs i 0) w
+  pub passing_on : {w : ℕ} → i < length xs → length xs ≤ node_limit → w ≡ weight_of (node_of (get_or xs i 0)) → w ≤ 2 * one_waiting + 1
       → Passing xs (i + 1) (sum + w - one_waiting) (fine && leb (none_waiting + one_waiting) (sum + w - one_waiting))
-  passing_on {w} h b (e, m) =
+  passing_on {w} h b e m =
       let next : sum + w - one_waiting + one_waiting ≡ sum + weight_of (node_of (get_or xs i 0)) = omega (arith, c.low) in
       record {
         inside = omega arith;
@@ -132,3 +105,5 @@ module _ {xs : List ℕ} {i sum : ℕ} {fine : Bool} (c : Passing xs i sum fine)
   pub passing-right : (L : ℕ) → length xs ≤ i → length xs ≤ node_limit → L ≤ node_limit → fine ≡ true
       → eqb sum (none_waiting + one_waiting + L) ≡ true → first_of (node_grounds L (map node_of xs)) ≡ none
   passing-right L z m k f e = weighed_right (c.weighed f) L z (omega (arith, c.inside)) m k (eqb-true sum (none_waiting + one_waiting + L) e)
+
+pub ruleset passes = (passing-none, passing_on, passing-right)

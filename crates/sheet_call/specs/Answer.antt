@@ -1,10 +1,16 @@
 -- The number and the second number that an answer of the sheet call gives.
-use Rattle.std.specs.Prelude.{List, ℕ}
+use Rattle.std.specs.Prelude.{List, ℕ, Result, Ok, Err}
+use Rattle.rules.specs.Limits.{wiped}
 use Rattle.rules.specs.Numbers.{done}
-use Rattle.sheet_call.specs.declared.SheetAnswer.{SheetAnswer}
-use Rattle.sheet_call.specs.declared.SheetAnswer.TheVariants.{Made, Refused}
-use Rattle.text.specs.Outcome.{SheetEnd}
+use Rattle.rules.specs.Fault.{text_fault_number}
+use Rattle.rules.specs.declared.Refusal.{Refusal}
+use Rattle.text.specs.Outcome.{SheetEnd, SheetCall}
 
-abbrev pub sheet_end : SheetAnswer → List ℕ → SheetEnd
-sheet_end (Made n) sheet = record { number = done; second = n; sheet = sheet }
-sheet_end (Refused f) sheet = record { number = f.number; second = f.place; sheet = sheet }
+abbrev pub sheet_end : Result ℕ Refusal → List ℕ → SheetEnd
+sheet_end (Ok n) sheet = record { number = done; second = n; sheet = sheet }
+sheet_end (Err f) sheet = record { number = text_fault_number f.fault; second = f.place; sheet = sheet }
+
+-- the call before a refusal wipes the buffer
+abbrev pub SheetTried : List ℕ → List ℕ → List ℕ → Result ℕ Refusal → Type 0
+SheetTried text buffer after (Ok n) = SheetCall text buffer (sheet_end (Ok n) after)
+SheetTried text buffer after (Err f) = SheetCall text buffer (sheet_end (Err f) (wiped buffer))

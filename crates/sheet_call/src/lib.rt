@@ -1,89 +1,68 @@
 // The sheet call: refusals in their order, or the sheet; zeros elsewhere.
 #![tactic(auto)]
 
-ghost use Rattle.std.specs.Prelude.{◌≡◌, List, ℕ, ◌≤◌, length};
-ghost use Rattle.rules.specs.Limits.{text_limit, leaf_limit, node_limit, wiped};
-ghost use Rattle.text.specs.Walk.{fault, parse};
-ghost use Rattle.text.specs.Reads.{state, nothing_read, Whole};
+ghost use Rattle.std.specs.Prelude.{◌≡◌, MatchResult, Ok, Err};
+ghost use Rattle.std.proofs.Math.Option.{some};
+ghost use Rattle.rules.specs.Limits.{wiped};
+ghost use Rattle.text.specs.Reads.{Whole};
+ghost use Rattle.text.specs.Refusals.{text_refusal};
 ghost use Rattle.text.specs.Outcome.{SheetCall};
-ghost use Rattle.sheet_call.specs.Answer.{sheet_end};
+ghost use Rattle.sheet_call.specs.Answer.{sheet_end, SheetTried};
 
-use buffers::wipe_all;
-use lexer::{Scan, first_fault, passing_place};
-use rules::{
-    LEAF_LIMIT, LEAVES_MANY, NODE_LIMIT, NODES_MANY, Refusal, SHEET_SHORT, TEXT_LIMIT, TEXT_LONG,
-    refused_at,
-};
+use lexer::Text;
+use rules::{LEAF_LIMIT, NODE_LIMIT, Refusal, TEXT_LIMIT, TextFault, refused_at};
 use sheet::{length_for, write};
-use text::{Progress, Read, read_text};
+use text::{Draft, read_text};
 
-// The sheet call's answer; specs/Answer.antt gives its numbers.
-#[derive(Drop)]
-pub enum SheetAnswer {
-    // the sheet's length
-    Made(usize),
-    Refused(Refusal),
-}
-
-// A refusal leaves the whole buffer zero.
-fn refuse(sheet: &mut [u8], why: Refusal) -> SheetAnswer
-    ensures { (result ≡ SheetAnswer.Refused why) × (sheet.new ≡ wiped sheet.old) }
+// Reads a text. 11 and 19 anywhere come before 12 to 15 anywhere; a text that the readers take has neither, so their walk is needed after a refusal only.
+fn read(text: Text) -> Result<Draft, Refusal>
+    ensures { MatchResult result (Whole text.entry.bytes.now) (λ f. text_refusal text.entry.bytes.now ≡ some f) }
 {
-    wipe_all(sheet);
-    SheetAnswer::Refused(why)
-}
-
-// 11 and 19 anywhere come before 12 to 15 anywhere. A text that the readers take has neither, so this walk is needed after a refusal only.
-fn refuse_first(text: &[u8], sheet: &mut [u8], why: Refusal) -> SheetAnswer
-    requires { length text.now ≤ text_limit }
-    ensures { parse text.now ≡ fault why → SheetCall text.now sheet.old (sheet_end result sheet.new) }
-{
-    let s = first_fault(text);
-    let Scan::Found(first) = s else {
-        return refuse(sheet, why);
+    let read = read_text(text);
+    let Err(why) = read else {
+        return read;
     };
-    refuse(sheet, first)
+    text.first_fault()?;
+    Err(why)
 }
 
 // 16, 17, 18, or the sheet, of a text that has been read.
-fn answer(text: &[u8], sheet: &mut [u8], lits: &[u8], nodes: &[u8], read: Progress) -> SheetAnswer
-    requires { (length text.now ≤ text_limit) × (length lits.now ≡ leaf_limit) × (length nodes.now ≡ node_limit) }
-    ensures { (xs bs : List ℕ) → Whole text.now (state nothing_read xs bs) (state read nodes.now lits.now) → SheetCall text.now sheet.old (sheet_end result sheet.new) }
+fn write_draft(text: Text, draft: &Draft, sheet: &mut [u8]) -> Result<usize, Refusal>
+    requires { Whole text.bytes.now draft.now }
+    ensures { SheetTried text.entry.bytes.now sheet.old sheet.new result }
 {
-    let l = read.leaves;
-    let n = read.nodes;
-    let many = LEAF_LIMIT < l;
+    let many = LEAF_LIMIT < draft.literals.count;
     if many {
-        let p = passing_place(text);
-        return refuse(sheet, refused_at(p, LEAVES_MANY));
+        return Err(refused_at(text.passing_place(), TextFault::LeavesMany));
     }
-    if NODE_LIMIT < n {
-        return refuse(sheet, refused_at(text.len(), NODES_MANY));
+    if NODE_LIMIT < draft.nodes.count {
+        return Err(refused_at(text.len(), TextFault::NodesMany));
     }
-    let needed = length_for(l, n);
+    let needed = length_for(draft.literals.count, draft.nodes.count);
     if sheet.len() < needed {
-        return refuse(sheet, refused_at(needed, SHEET_SHORT));
+        return Err(refused_at(needed, TextFault::SheetShort));
     }
-    write(sheet, lits, l, nodes, n);
-    SheetAnswer::Made(needed)
+    write(sheet, draft.literals.kept(), draft.nodes.kept());
+    Ok(needed)
+}
+
+// The sheet in the buffer, or why there is none.
+#[tactic(auto, using(crate::proofs::Call::refusal_long, crate::proofs::Call::call_refused))]
+fn try_make(text: &[u8], sheet: &mut [u8]) -> Result<usize, Refusal>
+    ensures { SheetTried text.now sheet.old sheet.new result }
+{
+    let text = Text::new(text).ok_or(refused_at(TEXT_LIMIT, TextFault::TextLong))?;
+    let draft = read(text)?;
+    write_draft(text, &draft, sheet)
 }
 
 // Makes the sheet of an expression: the sheet and zeros to the buffer's end, or a refusal and zeros.
-pub fn make(text: &[u8], sheet: &mut [u8]) -> SheetAnswer
+pub fn make(text: &[u8], sheet: &mut [u8]) -> Result<usize, Refusal>
     ensures { SheetCall text.now sheet.old (sheet_end result sheet.new) }
 {
-    if TEXT_LIMIT < text.len() {
-        return refuse(sheet, refused_at(TEXT_LIMIT, TEXT_LONG));
+    let made = try_make(text, sheet);
+    if made.is_err() {
+        sheet.fill(0);
     }
-    let mut nodes = [0u8; NODE_LIMIT];
-    let mut lits = [0u8; LEAF_LIMIT];
-    let r = read_text(text, &mut nodes, &mut lits);
-    match r {
-        Read::Refused(f) => {
-            return refuse_first(text, sheet, f);
-        }
-        Read::Done(p) => {
-            return answer(text, sheet, &lits, &nodes, p);
-        }
-    }
+    made
 }

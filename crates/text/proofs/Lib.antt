@@ -3,6 +3,5 @@ pub mod Made
 pub mod Outcome
 pub mod Numbers
 pub mod Places
-pub mod Faults
 pub mod Parts
 pub mod Readers

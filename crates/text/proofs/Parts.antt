@@ -1,231 +1,133 @@
 -- Units, sequences and alternations, part by part: how the walk goes on and what has been stored.
-use mathlib.Core.Path.{◌≡◌, refl, ap, sym, ◌∙◌}
-use mathlib.Core.Bool.{Bool, true, false}
+use mathlib.Core.Path.{◌≡◌, refl, sym, ◌∙◌}
+use mathlib.Core.Bool.{true, false, true≢false}
 use mathlib.Core.Option.{Option, none, some}
 use mathlib.Core.List.{List, [], ◌∷◌, ◌++◌, append-nil}
 use Prim.Native.Nat.{ℕ, suc, ◌+◌, ◌≤◌}
 use native.Mathlib.Omega.{arith}
-use lib.ListN.{length, get_or, drop, replicate, set}
-use Rattle.rules.specs.Numbers.{open_unclosed, close_unopened}
+use lib.ListN.{length-drop, length, get_or, drop, replicate}
+use Rattle.rules.specs.declared.TextFault.TheVariants.{OpenUnclosed}
 use Rattle.rules.specs.Limits.{open_limit}
 use Rattle.rules.specs.declared.Refusal.{Refusal}
 use Rattle.rules.specs.Fault.{at}
-use Rattle.buffers.specs.Wrote.{Wrote, op_if}
-use Rattle.buffers.proofs.Stores.{wrote_none, wrote_one, wrote_both, wrote_as}
-use Rattle.language.specs.Tree.{Tree, leaf, empty, cat, alt, star}
+use Rattle.buffers.proofs.Stores.{wrote_both, wrote_as}
+use Rattle.language.specs.Tree.{Tree, leaf, empty, cat, star}
 use Rattle.sheet.specs.Nodes.{leaf_node, empty_node, cat_node, union_node, star_node}
-use Rattle.sheet.specs.Make.{postorder, leaves}
+use Rattle.sheet.specs.Make.{postorder}
 use Rattle.lexer.specs.Bytes.{bar, asterisk, left_parenthesis, right_parenthesis}
 use Rattle.lexer.specs.Tokens.{placed, a_close, starts, tokens_from}
-use Rattle.lexer.specs.Places.{unit_at, plain_at, Taken}
+use Rattle.lexer.specs.Places.{plain_at, Taken}
+use Rattle.lexer.specs.declared.Literal.{Literal}
 use Rattle.lexer.proofs.Front.{tokens_end, tokens_bar, tokens_star, tokens_open, tokens_close}
 use Rattle.lexer.proofs.Units.{tokens_plain}
 use Rattle.repeats.specs.Copies.{copies}
 use Rattle.repeats.proofs.Leaves.{copies-leaves}
-use Rattle.text.specs.declared.Progress.{Progress}
-use Rattle.text.specs.Walk.{Frame, begin, going, after, value, put, fault, parse}
-use Rattle.text.specs.Reads.{State, state, nothing_read, Stored, go, Part, SeqPart, AltPart, Ready, Ends, Fails, Whole}
+use Rattle.text.specs.declared.Draft.{Draft}
+use Rattle.text.specs.Walk.{Frame, begin, going, after, value, tree, parse}
+use Rattle.text.specs.Reads.{Stored, State, state, go, Part, SeqPart, AltPart, Ends, Fails, ends_at}
 use Rattle.text.proofs.Parsing.{starred-put}
 
--- so many bytes, nodes and leaves further
-abbrev pub more : Progress → ℕ → ℕ → ℕ → Progress
-more p i n l = record { place = p.place + i; nodes = p.nodes + n; leaves = p.leaves + l }
+-- two parts of a draft stored one after the other
+pub stored_both : {o p q : Draft} {vs ws xs ys : List ℕ} → Stored o p vs ws → Stored p q xs ys → Stored o q (vs ++ xs) (ws ++ ys)
+stored_both a b = record { nodes = wrote_both a.nodes b.nodes; literals = wrote_both a.literals b.literals }
+
+pub stored_as : {o p : Draft} {vs xs ws ys : List ℕ} → vs ≡ xs → ws ≡ ys → Stored o p vs ws → Stored o p xs ys
+stored_as e f a = record { nodes = wrote_as e a.nodes; literals = wrote_as f a.literals }
+
+-- an operator after what was stored
+pub stored_op : {o p q : Draft} {vs ws : List ℕ} {k : ℕ} → Stored o p vs ws → Stored p q (k ∷ []) [] → Stored o q (vs ++ k ∷ []) ws
+stored_op {ws = ws} a b = stored_as refl (append-nil ws) (stored_both a b)
 
 -- A UNIT
-module _ {t : List ℕ} {d : ℕ} {from : Progress} {xs ys bs cs : List ℕ} where
-  pub part_plain : plain_at (drop from.place t) ≡ true → ys ≡ set xs from.nodes leaf_node → cs ≡ set bs from.leaves (get_or t from.place 0)
-      → Part t d (state from xs bs) (state (more from 1 1 1) ys cs)
-  part_plain e w v = record {
-    made = leaf (get_or t from.place 0);
-    stored = record { nodes = wrote_one from.nodes xs ys leaf_node w; lits = wrote_one from.leaves bs cs (get_or t from.place 0) v };
-    walk = λ f gs. rw (tokens_plain t from.place e) refl;
-  }
+module _ {t : List ℕ} {d here : ℕ} {o p : Draft} where
+  pub part_plain : plain_at (drop here t) ≡ true → Stored o p (leaf_node ∷ []) (get_or t here 0 ∷ []) → Part t d (state here o) (state (here + 1) p)
+  part_plain e w = record { made = leaf (get_or t here 0); stored = w; walk = λ f gs. rw (tokens_plain t here e) refl }
 
-  pub part_literal : {b x y : ℕ} {p : Progress} → Taken t from.place b x y p.place → Wrote from.nodes xs p.nodes ys (postorder (copies b x y))
-      → Wrote from.leaves bs p.leaves cs (replicate y b) → Part t d (state from xs bs) (state p ys cs)
-  part_literal {b} {x} {y} g w v = record {
-    made = copies b x y;
-    stored = record { nodes = w; lits = wrote_as (sym (copies-leaves b x y g.least)) v };
+  pub part_literal : {l : Literal} → Taken t here l → Stored o p (postorder (copies l.byte l.least l.most)) (replicate l.most l.byte) → Part t d (state here o) (state l.next p)
+  part_literal {l} g w = record {
+    made = copies l.byte l.least l.most;
+    stored = stored_as refl (sym (copies-leaves l.byte l.least l.most g.least)) w;
     walk = λ f gs. rw g.token refl;
   }
 
 -- a parenthesis opens here, and e more may be opened in it
-pub record Opens (t : List ℕ) (d e : ℕ) (from : Progress) : Type 0 where
+pub record Opens (t : List ℕ) (d e here : ℕ) : Type 0 where
   pub deeper : d ≡ suc e
-  pub bracket : starts (drop from.place t) left_parenthesis ≡ true
+  pub bracket : starts (drop here t) left_parenthesis ≡ true
 
-module _ {t : List ℕ} {d e : ℕ} {from : Progress} (o : Opens t d e from) where
-  pub part_void : {xs ys bs : List ℕ} → starts (drop (from.place + 1) t) right_parenthesis ≡ true → ys ≡ set xs from.nodes empty_node
-      → Part t d (state from xs bs) (state (record { place = from.place + 2; nodes = from.nodes + 1; leaves = from.leaves }) ys bs)
-  part_void {xs} {ys} {bs} c w =
-      let z : from.place + 1 + 1 ≡ from.place + 2 = omega arith in
-      let g : tokens_from t (from.place + 1) ≡ placed (from.place + 1) a_close ∷ tokens_from t (from.place + 2) = rw z at (tokens_close t (from.place + 1) c) in
-      record {
-        made = empty;
-        stored = record { nodes = wrote_one from.nodes xs ys empty_node w; lits = wrote_none from.leaves bs };
-        walk = λ f gs. rw (tokens_open t from.place o.bracket, o.deeper, g) refl;
-      }
+module _ {t : List ℕ} {d e here : ℕ} (b : Opens t d e here) where
+  pub part_void : {o p : Draft} → starts (drop (here + 1) t) right_parenthesis ≡ true → Stored o p (empty_node ∷ []) [] → Part t d (state here o) (state (here + 2) p)
+  part_void c w =
+      let z : here + 1 + 1 ≡ here + 2 = omega arith in
+      let g : tokens_from t (here + 1) ≡ placed (here + 1) a_close ∷ tokens_from t (here + 2) = rw z at (tokens_close t (here + 1) c) in
+      record { made = empty; stored = w; walk = λ f gs. rw (tokens_open t here b.bracket, b.deeper, g) refl }
 
-  pub fails_group : starts (drop (from.place + 1) t) right_parenthesis ≡ false → (k : Refusal) → ((gs : List Frame) → Ends t e (from.place + 1) k (begin none) gs)
-      → Fails t d from.place k
-  fails_group n k h f gs r c = rw (tokens_open t from.place o.bracket, o.deeper) (h (f ∷ gs) n (omega (arith, o.deeper)))
+  pub fails_group : starts (drop (here + 1) t) right_parenthesis ≡ false → (k : Refusal) → ((gs : List Frame) → Ends t e (here + 1) k (begin none) gs) → Fails t d here k
+  fails_group n k h f gs r c = rw (tokens_open t here b.bracket, b.deeper) (h (f ∷ gs) n (omega (arith, b.deeper)))
 
-  module _ {xs bs : List ℕ} {p : Progress} {ys cs : List ℕ}
-      (w : AltPart t e (state (record { place = from.place + 1; nodes = from.nodes; leaves = from.leaves }) xs bs) (state p ys cs)) where
-    pub part_group : starts (drop p.place t) right_parenthesis ≡ true
-        → Part t d (state from xs bs) (state (record { place = p.place + 1; nodes = p.nodes; leaves = p.leaves }) ys cs)
+  module _ {o p : Draft} {next : ℕ} (w : AltPart t e (state (here + 1) o) (state next p)) where
+    pub part_group : starts (drop next t) right_parenthesis ≡ true → Part t d (state here o) (state (next + 1) p)
     part_group c = record {
       made = value w.a w.s w.u;
-      stored = record { nodes = w.stored.nodes; lits = w.stored.lits };
-      walk = λ f gs. rw (tokens_open t from.place o.bracket, o.deeper) (w.walk (f ∷ gs) ∙ rw (tokens_close t p.place c) refl);
+      stored = w.stored;
+      walk = λ f gs. rw (tokens_open t here b.bracket, b.deeper) (w.walk (f ∷ gs) ∙ rw (tokens_close t next c) refl);
     }
 
-    pub fails_unclosed : p.place ≤ length t → length t ≤ p.place → Fails t d from.place (at p.place open_unclosed)
+    pub fails_unclosed : next ≤ length t → length t ≤ next → Fails t d here (at next OpenUnclosed)
     fails_unclosed h g f gs r c =
-        let z : length t ≡ p.place = omega arith in
-        rw (tokens_open t from.place o.bracket, o.deeper) (w.walk (f ∷ gs) ∙ rw (tokens_end t p.place g, z) refl)
+        let z : length t ≡ next = omega arith in
+        rw (tokens_open t here b.bracket, b.deeper) (w.walk (f ∷ gs) ∙ rw (tokens_end t next g, z) refl)
 
 -- a star after it
-pub part_star : {t : List ℕ} {d : ℕ} {o : State} {p : Progress} {ys bs zs : List ℕ}
-    → Part t d o (state p ys bs) → starts (drop p.place t) asterisk ≡ true → zs ≡ set ys p.nodes star_node
-    → Part t d o (state (record { place = p.place + 1; nodes = p.nodes + 1; leaves = p.leaves }) zs bs)
-part_star {t} {d} {p = p} {ys} {zs = zs} w e z =
-    let here = p.place in
-    record {
-      made = star w.made;
-      stored = record { nodes = wrote_both w.stored.nodes (wrote_one p.nodes ys zs star_node z); lits = w.stored.lits };
-      walk = λ f gs. w.walk f gs ∙ rw (tokens_star t here e) (starred-put (length t) d here w.made (tokens_from t (here + 1)) f gs);
-    }
-
--- WHAT STANDS BEFORE
--- the nodes and the leaves of what was read before, if anything was
-abbrev pub nodes_of : Option (Tree ℕ) → List ℕ
-nodes_of none = []
-nodes_of (some r) = postorder r
-
-abbrev pub letters_of : Option (Tree ℕ) → List ℕ
-letters_of none = []
-letters_of (some r) = leaves r
-
-abbrev pub is_some : Option (Tree ℕ) → Bool
-is_some none = false
-is_some (some r) = true
-
--- the operator stands after both operands
-joined_nodes : (f : Tree ℕ → Tree ℕ → Tree ℕ) (k : ℕ) → ((r t : Tree ℕ) → postorder (f r t) ≡ postorder r ++ postorder t ++ k ∷ [])
-    → (o : Option (Tree ℕ)) (t : Tree ℕ) → nodes_of o ++ postorder t ++ op_if (is_some o) k ≡ postorder (after f o t)
-joined_nodes f k h none t = append-nil (postorder t)
-joined_nodes f k h (some r) t = sym (h r t)
-
-joined_letters : (f : Tree ℕ → Tree ℕ → Tree ℕ) → ((r t : Tree ℕ) → leaves (f r t) ≡ leaves r ++ leaves t)
-    → (o : Option (Tree ℕ)) (t : Tree ℕ) → letters_of o ++ leaves t ≡ leaves (after f o t)
-joined_letters f h none t = refl
-joined_letters f h (some r) t = sym (h r t)
-
--- the progress after the operator, if there is one: n nodes
-abbrev pub counting : Progress → ℕ → Progress
-counting p n = record { place = p.place; nodes = n; leaves = p.leaves }
-
--- a part more, and the operator if something stood before
-joined : (f : Tree ℕ → Tree ℕ → Tree ℕ) (k : ℕ) → ((r t : Tree ℕ) → postorder (f r t) ≡ postorder r ++ postorder t ++ k ∷ [])
-    → ((r t : Tree ℕ) → leaves (f r t) ≡ leaves r ++ leaves t)
-    → {o p : State} {q : Progress} {n : ℕ} {ys ws cs : List ℕ} {again : Bool} (before : Option (Tree ℕ)) (t : Tree ℕ) → again ≡ is_some before
-    → Stored o p (nodes_of before) (letters_of before) → Stored p (state q ys cs) (postorder t) (leaves t) → Wrote q.nodes ys n ws (op_if again k)
-    → Stored o (state (counting q n) ws cs) (postorder (after f before t)) (leaves (after f before t))
-joined f k h g before t e a b c = record {
-  nodes = wrote_as (rw e (joined_nodes f k h before t)) (wrote_both (wrote_both a.nodes b.nodes) c);
-  lits = wrote_as (joined_letters f g before t) (wrote_both a.lits b.lits);
+pub part_star : {t : List ℕ} {d : ℕ} {o : State} {here : ℕ} {p q : Draft} → Part t d o (state here p) → starts (drop here t) asterisk ≡ true
+    → Stored p q (star_node ∷ []) [] → Part t d o (state (here + 1) q)
+part_star {t} {d} {here = here} w e v = record {
+  made = star w.made;
+  stored = stored_op w.stored v;
+  walk = λ f gs. w.walk f gs ∙ rw (tokens_star t here e) (starred-put (length t) d here w.made (tokens_from t (here + 1)) f gs);
 }
 
 -- A SEQUENCE
--- its units so far; frame a: the frame there, after the alternation a
-pub record SeqSoFar (again : Bool) (t : List ℕ) (d : ℕ) (o p : State) : Type 0 where
-  pub before : Option (Tree ℕ)
-  pub frame : Option (Tree ℕ) → Frame
-  pub flag : again ≡ is_some before
-  pub puts : (a : Option (Tree ℕ)) (v : Tree ℕ) → put v (frame a) ≡ going a before v
-  pub stored : Stored o p (nodes_of before) (letters_of before)
-  pub walk : (a : Option (Tree ℕ)) (gs : List Frame) → go t d o.far.place (begin a) gs ≡ go t d p.far.place (frame a) gs
-  pub ready : (a : Option (Tree ℕ)) (gs : List Frame) → Ready (begin a) gs (drop o.far.place t) → Ready (frame a) gs (drop p.far.place t)
-
-nothing_stored : (o : State) → Stored o o [] []
-nothing_stored o = record { nodes = wrote_none o.far.nodes o.nodes; lits = wrote_none o.far.leaves o.lits }
-
 module _ {t : List ℕ} {d : ℕ} {o : State} where
-  pub seq_starts : SeqSoFar false t d o o
-  seq_starts = record {
-    before = none;
-    frame = λ a. begin a;
-    flag = refl;
-    puts = λ a v. refl;
-    stored = nothing_stored o;
-    walk = λ a gs. refl;
-    ready = λ a gs r. r;
-  }
-
-  module _ {again : Bool} {p : State} (w : SeqSoFar again t d o p) where
-    pub seq_unit : {q : Progress} {n : ℕ} {ys ws cs : List ℕ} → Part t d p (state q ys cs) → Wrote q.nodes ys n ws (op_if again cat_node) → SeqPart t d o (state (counting q n) ws cs)
-    seq_unit {q} v e = record {
-      s = w.before;
+  module _ {here : ℕ} {p : Draft} (w : SeqPart t d o (state here p)) where
+    -- a unit more, and the concatenation
+    pub seq_more : {next : ℕ} {q r : Draft} → Part t d (state here p) (state next q) → Stored q r (cat_node ∷ []) [] → SeqPart t d o (state next r)
+    seq_more v e = record {
+      s = some (after cat w.s w.u);
       u = v.made;
-      stored = joined cat cat_node (λ r t. refl) (λ r t. refl) w.before v.made w.flag w.stored v.stored e;
-      walk = λ a gs. w.walk a gs ∙ v.walk (w.frame a) gs ∙ ap (λ (f : Frame). go t d q.place f gs) (w.puts a v.made);
+      stored = stored_op (stored_both w.stored v.stored) e;
+      walk = λ a gs. w.walk a gs ∙ v.walk (going a w.s w.u) gs;
     }
-
-    pub seq_fails : (k : Refusal) → Fails t d p.far.place k → (a : Option (Tree ℕ)) (gs : List Frame) → Ends t d o.far.place k (begin a) gs
-    seq_fails k h a gs r c = w.walk a gs ∙ h (w.frame a) gs (w.ready a gs r) c
-
-  pub seq_goes_on : {p : State} → SeqPart t d o p → unit_at (drop p.far.place t) ≡ true → SeqSoFar true t d o p
-  seq_goes_on w u = record {
-    before = some (after cat w.s w.u);
-    frame = λ a. going a w.s w.u;
-    flag = refl;
-    puts = λ a v. refl;
-    stored = w.stored;
-    walk = w.walk;
-    ready = λ a gs r. u;
-  }
 
 -- AN ALTERNATION
--- its sequences so far, each with its bar
-pub record AltSoFar (again : Bool) (t : List ℕ) (d : ℕ) (o p : State) : Type 0 where
-  pub before : Option (Tree ℕ)
-  pub flag : again ≡ is_some before
-  pub stored : Stored o p (nodes_of before) (letters_of before)
-  pub walk : (gs : List Frame) → go t d o.far.place (begin none) gs ≡ go t d p.far.place (begin before) gs
-  pub ready : (gs : List Frame) → Ready (begin none) gs (drop o.far.place t) → Ready (begin before) gs (drop p.far.place t)
-
 module _ {t : List ℕ} {d : ℕ} {o : State} where
-  pub alt-starts : AltSoFar false t d o o
-  alt-starts = record { before = none; flag = refl; stored = nothing_stored o; walk = λ gs. refl; ready = λ gs r. r }
+  module _ {here : ℕ} {p : Draft} (w : AltPart t d o (state here p)) (e : starts (drop here t) bar ≡ true) where
+    barred : (gs : List Frame) → go t d o.place (begin none) gs ≡ go t d (here + 1) (begin (some (value w.a w.s w.u))) gs
+    barred gs = w.walk gs ∙ rw (tokens_bar t here e) refl
 
-  module _ {again : Bool} {p : State} (w : AltSoFar again t d o p) where
-    pub alt-sequence : {q : Progress} {n : ℕ} {ys ws cs : List ℕ} → SeqPart t d p (state q ys cs) → Wrote q.nodes ys n ws (op_if again union_node) → AltPart t d o (state (counting q n) ws cs)
-    alt-sequence v e = record {
-      a = w.before;
+    -- a sequence more after its bar, and the union
+    pub alt_more : {next : ℕ} {q r : Draft} → SeqPart t d (state (here + 1) p) (state next q) → Stored q r (union_node ∷ []) [] → AltPart t d o (state next r)
+    alt_more v e = record {
+      a = some (value w.a w.s w.u);
       s = v.s;
       u = v.u;
-      stored = joined alt union_node (λ r t. refl) (λ r t. refl) w.before (after cat v.s v.u) w.flag w.stored v.stored e;
-      walk = λ gs. w.walk gs ∙ v.walk w.before gs;
+      stored = stored_op (stored_both w.stored v.stored) e;
+      walk = λ gs. barred gs ∙ v.walk (some (value w.a w.s w.u)) gs;
     }
 
-    pub alt_fails : (k : Refusal) → ((a : Option (Tree ℕ)) (gs : List Frame) → Ends t d p.far.place k (begin a) gs) → (gs : List Frame) → Ends t d o.far.place k (begin none) gs
-    alt_fails k h gs r c = w.walk gs ∙ h w.before gs (w.ready gs r) c
+    pub alt_fails : (k : Refusal) → ((a : Option (Tree ℕ)) (gs : List Frame) → Ends t d (here + 1) k (begin a) gs) → (gs : List Frame) → Ends t d o.place k (begin none) gs
+    alt_fails k h gs r c = barred gs ∙ h (some (value w.a w.s w.u)) gs tt c
 
-  pub alt_goes_on : {p : Progress} {ys cs : List ℕ} → AltPart t d o (state p ys cs) → starts (drop p.place t) bar ≡ true
-      → AltSoFar true t d o (state (record { place = p.place + 1; nodes = p.nodes; leaves = p.leaves }) ys cs)
-  alt_goes_on {p} w e = record {
-    before = some (value w.a w.s w.u);
-    flag = refl;
-    stored = record { nodes = w.stored.nodes; lits = w.stored.lits };
-    walk = λ gs. w.walk gs ∙ rw (tokens_bar t p.place e) refl;
-    ready = λ gs r. tt;
-  }
+-- WHERE AN ALTERNATION ENDS
+end_is : (s : List ℕ) → ends_at s ≡ true → starts s right_parenthesis ≡ false → length s ≡ 0
+end_is [] e c = refl
+end_is (b ∷ s) e c = absurd (true≢false (sym e ∙ c))
+
+-- an alternation that does not end at a closed parenthesis ends with the text
+pub at_end_lem : (t : List ℕ) (here : ℕ) → ends_at (drop here t) ≡ true → starts (drop here t) right_parenthesis ≡ false → length t ≤ here
+at_end_lem t here e c = omega (arith, length-drop here t, end_is (drop here t) e c)
 
 -- A WHOLE TEXT
-module _ {t xs bs ys cs : List ℕ} {p : Progress} (w : AltPart t open_limit (state nothing_read xs bs) (state p ys cs)) where
-  pub whole : length t ≤ p.place → Whole t (state nothing_read xs bs) (state p ys cs)
-  whole h = record { made = value w.a w.s w.u; found = w.walk [] ∙ rw (tokens_end t p.place h) refl; stored = w.stored }
-
-  pub whole-closed : starts (drop p.place t) right_parenthesis ≡ true → parse t ≡ fault (at p.place close_unopened)
-  whole-closed c = w.walk [] ∙ rw (tokens_close t p.place c) refl
+module _ {t : List ℕ} {o : Draft} {here : ℕ} {p : Draft} (w : AltPart t open_limit (state 0 o) (state here p)) where
+  pub found_end : length t ≤ here → parse t ≡ tree (value w.a w.s w.u)
+  found_end h = w.walk [] ∙ rw (tokens_end t here h) refl

@@ -9,7 +9,7 @@ use lib.Dec.{ltb}
 use lib.ListN.{length}
 use borrow.Author.Tests.{ltb-false}
 use Rattle.rules.specs.Limits.{text_limit, open_limit, leaf_limit, node_limit}
-use Rattle.rules.specs.Numbers.{text_long, leaves_many, nodes_many}
+use Rattle.rules.specs.declared.TextFault.TheVariants.{TextLong, LeavesMany, NodesMany}
 use Rattle.rules.specs.Grounds.{because, first_of}
 use Rattle.rules.specs.declared.Refusal.{Refusal}
 use Rattle.rules.specs.Fault.{at}
@@ -59,12 +59,12 @@ module _ (e : ℕ) where
   passing_near n [] w = tt
   passing_near n (placed i t ∷ ps) (h, w) = go (ltb leaf_limit (n + leaves_of t)) (passing_near (n + leaves_of t) ps w)
     where
-      go : (b : Bool) → Gives Near (passing (n + leaves_of t) ps) → Gives Near (cond b (some (at i leaves_many)) (passing (n + leaves_of t) ps))
+      go : (b : Bool) → Gives Near (passing (n + leaves_of t) ps) → Gives Near (cond b (some (at i LeavesMany)) (passing (n + leaves_of t) ps))
       go true rest = h
       go false rest = rest
 
   big_near : (o : Answer) → Gives Near (too_big e o)
-  big_near (tree t) = because_gives Near (ltb node_limit (length (postorder t))) (at e nodes_many) (omega arith)
+  big_near (tree t) = because_gives Near (ltb node_limit (length (postorder t))) (at e NodesMany) (omega arith)
   big_near (fault f) = tt
 
 -- the place of a refusal
@@ -83,7 +83,7 @@ place_small text f e = go (ltb text_limit (length text)) refl e
       ),
     )
 
-    go : (b : Bool) → ltb text_limit (length text) ≡ b → first_of (because b (at text_limit text_long) ∷ rest) ≡ some f → f.place ≤ text_limit
+    go : (b : Bool) → ltb text_limit (length text) ≡ b → first_of (because b (at text_limit TextLong) ∷ rest) ≡ some f → f.place ≤ text_limit
     go true l q = rw (← some_eq q) (omega arith)
     go false l q =
         let n : f.place ≤ length text = rw q at (first_gives (Near (length text)) rest near) in

@@ -3,6 +3,7 @@ use Rattle.std.specs.Prelude.{List, ℕ, ◌<◌, ◌≤◌, length}
 use Rattle.rules.specs.Limits.{open_limit, wiped, filled}
 use Rattle.rules.specs.Numbers.{done, sheet_short}
 use Rattle.rules.specs.declared.Refusal.{Refusal}
+use Rattle.rules.specs.Fault.{text_fault_number}
 use Rattle.rules.specs.Grounds.{Call}
 use Rattle.language.specs.Tree.{Tree}
 use Rattle.sheet.specs.Make.{sheet_of}
@@ -28,7 +29,7 @@ pub data SheetWent (text buffer : List ℕ) : SheetEnd → Type 0 where
 
 -- a refusal answers its place, and wipes the buffer
 abbrev pub sheet_kept : List ℕ → Refusal → SheetEnd
-sheet_kept buffer f = record { number = f.number; second = f.place; sheet = wiped buffer }
+sheet_kept buffer f = record { number = text_fault_number f.fault; second = f.place; sheet = wiped buffer }
 
 abbrev pub SheetCall : List ℕ → List ℕ → SheetEnd → Type 0
 SheetCall text buffer = Call (text_refusal text) (sheet_kept buffer) (SheetWent text buffer)

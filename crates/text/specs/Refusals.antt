@@ -2,7 +2,7 @@
 use Rattle.std.proofs.Math.Option.{Option, none, some}
 use Rattle.std.specs.Prelude.{List, [], ◌∷◌, ℕ, ltb, length}
 use Rattle.rules.specs.Limits.{text_limit, node_limit}
-use Rattle.rules.specs.Numbers.{text_long, nodes_many}
+use Rattle.rules.specs.declared.TextFault.TheVariants.{TextLong, NodesMany}
 use Rattle.rules.specs.declared.Refusal.{Refusal}
 use Rattle.rules.specs.Fault.{at}
 use Rattle.rules.specs.Grounds.{because, first_of}
@@ -18,12 +18,12 @@ grammatical (fault f) = some f
 
 -- 17: more nodes than the limit; e: the text's length
 abbrev pub too_big : ℕ → Answer → Option Refusal
-too_big e (tree t) = because (ltb node_limit (length (postorder t))) (at e nodes_many)
+too_big e (tree t) = because (ltb node_limit (length (postorder t))) (at e NodesMany)
 too_big e (fault f) = none
 
 abbrev pub text_grounds : List ℕ → List (Option Refusal)
 text_grounds text =
-    because (ltb text_limit (length text)) (at text_limit text_long)
+    because (ltb text_limit (length text)) (at text_limit TextLong)
     ∷ lexical (tokens_from text 0)
     ∷ grammatical (parse text)
     ∷ passing 0 (tokens_from text 0)

@@ -5,7 +5,7 @@ use Rattle.language.specs.Tree.{Tree, empty, cat, alt, star}
 use Rattle.rules.specs.Limits.{open_limit}
 use Rattle.rules.specs.declared.Refusal.{Refusal}
 use Rattle.rules.specs.Fault.{at}
-use Rattle.rules.specs.Numbers.{operand_missing, close_unopened, open_unclosed, open_deep}
+use Rattle.rules.specs.declared.TextFault.TheVariants.{OperandMissing, CloseUnopened, OpenUnclosed, OpenDeep}
 use Rattle.lexer.specs.Tokens.{a_literal, a_bar, a_star, an_open, a_close, a_fault, Placed, placed, tokens_from}
 use Rattle.repeats.specs.Copies.{copies}
 
@@ -34,19 +34,19 @@ pub data Answer : Type 0 where
 
 -- e: the text's length; d: how many more parentheses may be opened; the frame being read, and those of the open parentheses
 abbrev pub run : ℕ → ℕ → List Placed → Frame → List Frame → Answer
-run e d [] (begin a) [] = fault (at e operand_missing)
+run e d [] (begin a) [] = fault (at e OperandMissing)
 run e d [] (going a s u) [] = tree (value a s u)
-run e d [] f (g ∷ gs) = fault (at e open_unclosed)
+run e d [] f (g ∷ gs) = fault (at e OpenUnclosed)
 run e d (placed i (a_literal b x y) ∷ ps) f gs = run e d ps (put (copies b x y) f) gs
-run e d (placed i a_star ∷ ps) (begin a) gs = fault (at i operand_missing)
+run e d (placed i a_star ∷ ps) (begin a) gs = fault (at i OperandMissing)
 run e d (placed i a_star ∷ ps) (going a s u) gs = run e d ps (going a s (star u)) gs
-run e d (placed i a_bar ∷ ps) (begin a) gs = fault (at i operand_missing)
+run e d (placed i a_bar ∷ ps) (begin a) gs = fault (at i OperandMissing)
 run e d (placed i a_bar ∷ ps) (going a s u) gs = run e d ps (begin (some (value a s u))) gs
-run e zero (placed i an_open ∷ ps) f gs = fault (at i open_deep)
+run e zero (placed i an_open ∷ ps) f gs = fault (at i OpenDeep)
 run e (suc d) (placed i an_open ∷ ps) f gs = run e d ps (begin none) (f ∷ gs)
-run e d (placed i a_close ∷ ps) f [] = fault (at i close_unopened)
+run e d (placed i a_close ∷ ps) f [] = fault (at i CloseUnopened)
 run e d (placed i a_close ∷ ps) (begin none) (g ∷ gs) = run e (suc d) ps (put empty g) gs
-run e d (placed i a_close ∷ ps) (begin (some r)) (g ∷ gs) = fault (at i operand_missing)
+run e d (placed i a_close ∷ ps) (begin (some r)) (g ∷ gs) = fault (at i OperandMissing)
 run e d (placed i a_close ∷ ps) (going a s u) (g ∷ gs) = run e (suc d) ps (put (value a s u) g) gs
 run e d (placed i (a_fault k) ∷ ps) f gs = fault (at i k)
 

@@ -1,230 +1,196 @@
 // Expression text to nodes and literals: alternation, sequence and unit read a text and store both as they go.
 #![tactic(auto)]
 
-ghost use Rattle.std.specs.Prelude.{◌≡◌, true, false, ℕ, ◌≤◌, length, drop};
-ghost use Rattle.rules.specs.Limits.{text_limit, open_limit};
+ghost use Rattle.std.specs.Prelude.{◌≡◌, true, false, ℕ, ◌+◌, ◌<◌, ◌≤◌, ◌∷◌, [], length, drop, replicate, MatchResult};
+ghost use Rattle.rules.specs.Limits.{open_limit, count_limit, most_copies, nodes_a_byte};
 ghost use Rattle.lexer.specs.Bytes.{left_parenthesis};
 ghost use Rattle.lexer.specs.Tokens.{starts};
 ghost use Rattle.lexer.specs.Places.{unit_at};
-ghost use Rattle.text.specs.Reads.{Begun, state, Fails, UnitRead, SeqRead, AltRead, StarsRead, TextRead};
+ghost use Rattle.sheet.specs.Nodes.{leaf_node};
+ghost use Rattle.sheet.specs.Kinds.{byte_of};
+ghost use Rattle.sheet.specs.Make.{postorder};
+ghost use Rattle.repeats.specs.Copies.{copies};
+ghost use Rattle.text.specs.Walk.{fault, parse};
+ghost use Rattle.text.specs.Reads.{Stored, Fresh, Begun, state, Fails, UnitRead, SeqRead, AltRead, StarsRead, Whole};
 
-use buffers::{emit, emit_if, emit_times};
-use lexer::{Literal, is, literal_at, plain_at, unit_at};
+use buffers::Tally;
+use lexer::{Literal, Text};
 use repeats::repeat;
-use rules::{
-    CLOSE_UNOPENED, OPEN_DEEP, OPEN_LIMIT, OPEN_UNCLOSED, OPERAND_MISSING, Refusal, refused_at,
-};
-use sheet::{CAT_NODE, EMPTY_NODE, LEAF_NODE, STAR_NODE, UNION_NODE};
+use rules::{LEAF_LIMIT, NODE_LIMIT, OPEN_LIMIT, Refusal, TextFault, refused_at};
+use sheet::Node;
 
-// How far a reader came: the place after what was read, and how many nodes and leaves there are so far.
+// What has been made of a text so far: the nodes of its tree in postorder, and its leaves from left to right.
 #[derive(Clone, Copy)]
-pub struct Progress {
-    pub place: usize,
-    pub nodes: usize,
-    pub leaves: usize,
+pub struct Draft {
+    pub nodes: Tally<NODE_LIMIT>,
+    pub literals: Tally<LEAF_LIMIT>,
 }
 
-// A reader's answer.
-#[derive(Drop)]
-pub enum Read {
-    Done(Progress),
-    Refused(Refusal),
-}
-
-// The stars that follow a unit.
-fn stars(text: &[u8], nodes: &mut [u8], from: Progress) -> Read
-    requires { Begun (length text.now) from }
-    ensures { StarsRead text.now from nodes.old nodes.new result }
-{
-    let mut place = from.place;
-    let mut n = from.nodes;
-    while is(text, place, b'*') {
-        emit(nodes, n, STAR_NODE);
-        place += 1;
-        n += 1;
+impl Draft {
+    pub fn new() -> Self
+        ensures { Fresh result }
+    {
+        Draft {
+            nodes: Tally::new(),
+            literals: Tally::new(),
+        }
     }
-    Read::Done(Progress {
-        place,
-        nodes: n,
-        leaves: from.leaves,
-    })
+
+    // A node that is no leaf.
+    fn node(&mut self, node: Node)
+        requires { self.old.nodes.count < count_limit }
+        ensures { Stored self.old self.new (byte_of node ∷ []) [] }
+    {
+        self.nodes.push(node.byte());
+    }
+
+    // A leaf of one byte.
+    fn leaf(&mut self, byte: u8)
+        requires { (self.old.nodes.count < count_limit) × (self.old.literals.count < count_limit) }
+        ensures { Stored self.old self.new (leaf_node ∷ []) (byte ∷ []) }
+    {
+        self.literals.push(byte);
+        self.nodes.push(Node::Leaf.byte());
+    }
+
+    // The copies of a literal.
+    fn copies(&mut self, literal: Literal)
+        requires room { (self.old.nodes.count + nodes_a_byte ≤ count_limit) × (self.old.literals.count + most_copies ≤ count_limit) }
+        requires repeat { (literal.least ≤ literal.most) × (literal.most ≤ most_copies) }
+        ensures { Stored self.old self.new (postorder (copies literal.byte literal.least literal.most)) (replicate literal.most literal.byte) }
+    {
+        self.literals.push_times(literal.byte, literal.most);
+        repeat(&mut self.nodes, literal.least, literal.most);
+    }
+}
+
+// The stars that follow a unit; the place after them.
+fn stars(text: Text, draft: &mut Draft, from: usize) -> usize
+    requires { Begun (length text.bytes.now) (state from draft.old) }
+    ensures { StarsRead text.entry.bytes.now (state from draft.old) (state result draft.new) }
+{
+    let mut place = from;
+    while text.is(place, b'*') {
+        draft.node(Node::Star);
+        place += 1;
+    }
+    place
 }
 
 // A literal with its repeat and its stars; most literals are one plain byte.
-fn literal(text: &[u8], nodes: &mut [u8], lits: &mut [u8], from: Progress) -> Read
-    requires { Begun (length text.now) from × (unit_at (drop from.place text.now) ≡ true) × (starts (drop from.place text.now) left_parenthesis ≡ false) }
-    ensures { (d : ℕ) → UnitRead text.now d (state from nodes.old lits.old) nodes.new lits.new result }
+fn literal(text: Text, draft: &mut Draft, place: usize) -> Result<usize, Refusal>
+    requires begun { Begun (length text.bytes.now) (state place draft.old) }
+    requires unit { unit_at (drop place text.bytes.now) ≡ true }
+    requires not_open { starts (drop place text.bytes.now) left_parenthesis ≡ false }
+    ensures { (d : ℕ) → UnitRead text.entry.bytes.now d (state place draft.old) draft.new result }
 {
-    let at = from.place;
-    if plain_at(text, at) {
-        emit(lits, from.leaves, text[at]);
-        emit(nodes, from.nodes, LEAF_NODE);
-        let one = Progress {
-            place: at + 1,
-            nodes: from.nodes + 1,
-            leaves: from.leaves + 1,
-        };
-        return stars(text, nodes, one);
+    if text.plain_at(place) {
+        draft.leaf(text.bytes[place]);
+        return Ok(stars(text, draft, place + 1));
     }
-    let q = literal_at(text, at);
-    match q {
-        Literal::Fault(f) => {
-            return Read::Refused(f);
-        }
-        Literal::Of(b, x, y, next) => {
-            let l = emit_times(lits, from.leaves, b, y);
-            let n = repeat(nodes, from.nodes, x, y);
-            let all = Progress {
-                place: next,
-                nodes: n,
-                leaves: l,
-            };
-            return stars(text, nodes, all);
-        }
-    }
+    let literal = text.literal_at(place)?;
+    draft.copies(literal);
+    Ok(stars(text, draft, literal.next))
 }
 
 // The refusal where no unit starts: 13 before 12 at a closed parenthesis, 14 before 12 at the end.
-fn missing(text: &[u8], at: usize, allowed: usize) -> Refusal
-    requires { (at ≤ length text.now) × (unit_at (drop at text.now) ≡ false) }
-    ensures { Fails text.now allowed at result }
+fn missing(text: Text, place: usize, allowed: usize) -> Refusal
+    requires inside { place ≤ length text.bytes.now }
+    requires no_unit { unit_at (drop place text.bytes.now) ≡ false }
+    ensures { Fails text.entry.bytes.now allowed place result }
 {
-    if at < text.len() {
-        if is(text, at, b')') {
-            if allowed == OPEN_LIMIT {
-                return refused_at(at, CLOSE_UNOPENED);
-            }
-            return refused_at(at, OPERAND_MISSING);
-        }
-        return refused_at(at, OPERAND_MISSING);
-    }
-    if allowed == OPEN_LIMIT {
-        return refused_at(at, OPERAND_MISSING);
-    }
-    refused_at(at, OPEN_UNCLOSED)
+    let fault = match (text.bytes.get(place), allowed == OPEN_LIMIT) {
+        (None, false) => TextFault::OpenUnclosed,
+        (Some(b')'), true) => TextFault::CloseUnopened,
+        _ => TextFault::OperandMissing,
+    };
+    refused_at(place, fault)
 }
 
 // An alternation: its sequences, each after the first with the union after it.
 #[cycle(alternation_sequence_unit)]
-fn alternation(
-    text: &[u8],
-    nodes: &mut [u8],
-    lits: &mut [u8],
-    from: Progress,
-    allowed: usize,
-) -> Read
-    requires { Begun (length text.now) from × (allowed ≤ open_limit) }
-    ensures { AltRead text.now allowed (state from nodes.old lits.old) nodes.new lits.new result }
+#[tactic(auto, using(crate::proofs::Parts::alt_more))]
+fn alternation(text: Text, draft: &mut Draft, from: usize, allowed: usize) -> Result<usize, Refusal>
+    requires begun { Begun (length text.bytes.now) (state from draft.old) }
+    requires few { allowed ≤ open_limit }
+    ensures { AltRead text.entry.bytes.now allowed (state from draft.old) draft.new result }
 {
-    let mut p = from;
-    let mut again = false;
-    loop {
-        let r = sequence(text, nodes, lits, p, allowed);
-        let Read::Done(q) = r else {
+    let first = sequence(text, draft, from, allowed);
+    let Ok(mut place) = first else {
+        return first;
+    };
+    while text.is(place, b'|') {
+        let r = sequence(text, draft, place + 1, allowed);
+        let Ok(next) = r else {
             return r;
         };
-        let next = q.place;
-        let n = emit_if(nodes, q.nodes, again, UNION_NODE);
-        if !is(text, next, b'|') {
-            return Read::Done(Progress {
-                place: next,
-                nodes: n,
-                leaves: q.leaves,
-            });
-        }
-        p = Progress {
-            place: next + 1,
-            nodes: n,
-            leaves: q.leaves,
-        };
-        again = true;
+        draft.node(Node::Union);
+        place = next;
     }
+    Ok(place)
 }
 
 // A sequence: its units, each after the first with the concatenation after it.
 #[cycle(alternation_sequence_unit)]
-fn sequence(text: &[u8], nodes: &mut [u8], lits: &mut [u8], from: Progress, allowed: usize) -> Read
-    requires { Begun (length text.now) from × (allowed ≤ open_limit) }
-    ensures { SeqRead text.now allowed (state from nodes.old lits.old) nodes.new lits.new result }
+#[tactic(auto, using(crate::proofs::Parts::seq_more))]
+fn sequence(text: Text, draft: &mut Draft, from: usize, allowed: usize) -> Result<usize, Refusal>
+    requires begun { Begun (length text.bytes.now) (state from draft.old) }
+    requires few { allowed ≤ open_limit }
+    ensures { SeqRead text.entry.bytes.now allowed (state from draft.old) draft.new result }
 {
-    let mut p = from;
-    let mut again = false;
-    loop {
-        let r = unit(text, nodes, lits, p, allowed);
-        let Read::Done(q) = r else {
+    let first = unit(text, draft, from, allowed);
+    let Ok(mut place) = first else {
+        return first;
+    };
+    while text.unit_at(place) {
+        let r = unit(text, draft, place, allowed);
+        let Ok(next) = r else {
             return r;
         };
-        let next = q.place;
-        let n = emit_if(nodes, q.nodes, again, CAT_NODE);
-        p = Progress {
-            place: next,
-            nodes: n,
-            leaves: q.leaves,
-        };
-        if !unit_at(text, next) {
-            return Read::Done(p);
-        }
-        again = true;
+        draft.node(Node::Cat);
+        place = next;
     }
+    Ok(place)
 }
 
 // A unit: the empty word, an alternation in parentheses or a literal, and the stars after it.
 #[cycle(alternation_sequence_unit)]
-fn unit(text: &[u8], nodes: &mut [u8], lits: &mut [u8], from: Progress, allowed: usize) -> Read
-    requires { Begun (length text.now) from × (allowed ≤ open_limit) }
-    ensures { UnitRead text.now allowed (state from nodes.old lits.old) nodes.new lits.new result }
+fn unit(text: Text, draft: &mut Draft, place: usize, allowed: usize) -> Result<usize, Refusal>
+    requires begun { Begun (length text.bytes.now) (state place draft.old) }
+    requires few { allowed ≤ open_limit }
+    ensures { UnitRead text.entry.bytes.now allowed (state place draft.old) draft.new result }
 {
-    let at = from.place;
-    if is(text, at, b'(') {
+    if text.is(place, b'(') {
         if allowed == 0 {
-            return Read::Refused(refused_at(at, OPEN_DEEP));
+            return Err(refused_at(place, TextFault::OpenDeep));
         }
-        if is(text, at + 1, b')') {
-            emit(nodes, from.nodes, EMPTY_NODE);
-            let void = Progress {
-                place: at + 2,
-                nodes: from.nodes + 1,
-                leaves: from.leaves,
-            };
-            return stars(text, nodes, void);
+        if text.is(place + 1, b')') {
+            draft.node(Node::Empty);
+            return Ok(stars(text, draft, place + 2));
         }
-        let mut inner = from;
-        inner.place += 1;
-        let r = alternation(text, nodes, lits, inner, allowed - 1);
-        let Read::Done(p) = r else {
+        let r = alternation(text, draft, place + 1, allowed - 1);
+        let Ok(next) = r else {
             return r;
         };
-        let next = p.place;
-        if is(text, next, b')') {
-            let mut closed = p;
-            closed.place += 1;
-            return stars(text, nodes, closed);
+        if text.is(next, b')') {
+            return Ok(stars(text, draft, next + 1));
         }
-        return Read::Refused(refused_at(next, OPEN_UNCLOSED));
+        return Err(refused_at(next, TextFault::OpenUnclosed));
     }
-    if unit_at(text, at) {
-        return literal(text, nodes, lits, from);
+    if text.unit_at(place) {
+        return literal(text, draft, place);
     }
-    Read::Refused(missing(text, at, allowed))
+    Err(missing(text, place, allowed))
 }
 
 // Reads a whole text.
-pub fn read_text(text: &[u8], nodes: &mut [u8], lits: &mut [u8]) -> Read
-    requires { length text.now ≤ text_limit }
-    ensures { TextRead text.now nodes.old lits.old nodes.new lits.new result }
+pub fn read_text(text: Text) -> Result<Draft, Refusal>
+    ensures { MatchResult result (Whole text.entry.bytes.now) (λ k. parse text.entry.bytes.now ≡ fault k) }
 {
-    let from = Progress {
-        place: 0,
-        nodes: 0,
-        leaves: 0,
-    };
-    let r = alternation(text, nodes, lits, from, OPEN_LIMIT);
-    let Read::Done(p) = r else {
-        return r;
-    };
-    let next = p.place;
-    if is(text, next, b')') {
-        return Read::Refused(refused_at(next, CLOSE_UNOPENED));
+    let mut draft = Draft::new();
+    let place = alternation(text, &mut draft, 0, OPEN_LIMIT)?;
+    if text.is(place, b')') {
+        return Err(refused_at(place, TextFault::CloseUnopened));
     }
-    Read::Done(p)
+    Ok(draft)
 }

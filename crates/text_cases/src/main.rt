@@ -2,13 +2,17 @@
 // It prints the front of the text, the number and the second number; a short sheet's bytes; and `not wiped` where a byte after the sheet is left.
 #![tactic(auto)]
 
-use console::{Failure, all_are, end_of, front, read_full, say, say_field, status};
-use sheet_call::SheetAnswer;
+ghost use Rattle.std.specs.Prelude.{◌≤◌};
+
+use console::{Failure, all_are, for_each_line, front, read_full, say, say_field, status};
 use std::io;
 use std::io::{Read, Write};
 use std::process::ExitCode;
 
 const SHOWN: usize = 24;
+
+// Bytes for a sheet of any case.
+const ROOM: usize = 400;
 
 fn dump<W: Write>(out: &mut W, bytes: &[u8]) -> io::Result<()> {
     for byte in bytes {
@@ -34,58 +38,33 @@ fn made<W: Write>(out: &mut W, sheet: &[u8], n: usize) -> io::Result<()> {
     finish(out, sheet, n)
 }
 
-fn report<W: Write>(out: &mut W, text: &[u8], sheet: &mut [u8]) -> io::Result<()> {
+// A text, and a buffer of N bytes for its sheet.
+fn case<W: Write, const N: usize>(out: &mut W, text: &[u8]) -> io::Result<()>
+    requires { N ≤ ROOM }
+{
+    let mut sheet = [0xaau8; N];
     say(out, front(text, SHOWN))?;
-    match sheet_call::make(text, sheet) {
-        SheetAnswer::Made(n) => made(out, sheet, n),
-        SheetAnswer::Refused(f) => {
-            say_field(out, f.number as u64)?;
-            say_field(out, f.place as u64)?;
-            finish(out, sheet, 0)
+    match sheet_call::make(text, &mut sheet) {
+        Ok(n) => made(out, &sheet, n),
+        Err(refusal) => {
+            say_field(out, refusal.fault.number())?;
+            say_field(out, refusal.place as u64)?;
+            finish(out, &sheet, 0)
         }
     }
 }
 
-fn case<W: Write>(out: &mut W, text: &[u8]) -> io::Result<()> {
-    let mut sheet = [0xaau8; 400];
-    report(out, text, &mut sheet)
-}
-
-fn lines<W: Write>(out: &mut W, input: &[u8]) -> io::Result<()> {
-    let mut i = 0;
-    while i < input.len() {
-        let e = end_of(input, i, b'\n');
-        case(out, &input[i..e])?;
-        i = e + 1;
-    }
-    Ok(())
-}
-
-// With room for so many bytes.
-fn report_into<W: Write>(
-    out: &mut W,
-    text: &[u8],
-    sheet: &mut [u8],
-    room: usize,
-) -> io::Result<()> {
-    if room <= sheet.len() {
-        report(out, text, &mut sheet[..room])?;
-    }
-    Ok(())
-}
-
 // 18 comes after all else.
 fn buffers<W: Write>(out: &mut W) -> io::Result<()> {
-    let mut sheet = [0xaau8; 12];
-    report_into(out, b"(a|(ba))*", &mut sheet, 11)?;
-    report_into(out, b"(a|(ba))*", &mut sheet, 12)?;
-    report_into(out, b"a", &mut sheet, 0)?;
-    report_into(out, b"a{0,65}", &mut sheet, 0)
+    case::<W, 11>(out, b"(a|(ba))*")?;
+    case::<W, 12>(out, b"(a|(ba))*")?;
+    case::<W, 0>(out, b"a")?;
+    case::<W, 0>(out, b"a{0,65}")
 }
 
 // All cases.
 fn run_all<W: Write>(out: &mut W, input: &[u8]) -> io::Result<()> {
-    lines(out, input)?;
+    for_each_line(input, |line| case::<W, ROOM>(out, line))?;
     buffers(out)
 }
 

@@ -1,106 +1,54 @@
-use mathlib.Core.Path.{refl}
+use mathlib.Core.Path.{ap}
 use native.Mathlib.Omega.{arith}
-use Rattle.automaton.proofs.Nodes.{start, not_deep, leaf-fits, leaf_turn, empty-fits, empty_turn, cat-fits, cat_turn, alt-fits, alt_turn, is_star, star-fits, star_turn, finish}
+use Prim.Native.Nat.{◌<◌}
+use lib.ListN.{length}
+use Rattle.automaton.proofs.Nodes.{start, not_deep, leaf-fits, leaf_turn, empty-fits, empty_turn, cat_turn, alt_turn, star_turn}
 use Rattle.automaton.proofs.walk.Goals as goal
+use Rattle.automaton.proofs.walk.Goals.{in-Leaf, in-Empty, in-Cat, in-Union, in-Star}
 
-pub loop-at-init : goal.loop-at-init
-loop-at-init c =
-    let (t, built, small) = c.requires.by_index in
-    (refl, refl, refl, start c.args.nodes.now _ _ _ t built small c.requires.nodes_len_bound.0 c.requires.nodes_len_bound.1)
+pub loop-node-init : goal.loop-node-init
+loop-node-init c =
+    let (t, built, small) = c.requires.one_tree in
+    start c.args.nodes.now c.args.follow.now c.on-waiting.result t built small c.requires.few c.requires.table.1 c.on-waiting.ensures
 
-pub put_leaf-requires : goal.put_leaf-requires
-put_leaf-requires c =
-    let loop = c.loop-at in
-    let room = leaf-fits loop.invariant.3 (omega arith) c.if-node-eq-LEAF_NODE.true in
+pub leaf-requires : goal.leaf-requires
+leaf-requires c =
+    let room = leaf-fits c.loop-node.invariant (omega arith) c.in-Leaf.ensures in
+    omega arith
+
+pub push-requires : goal.push-requires
+push-requires c =
+    let room = leaf-fits c.loop-node.invariant (omega arith) c.in-Leaf.ensures in
     omega arith
 
 pub overflow_add-p : goal.overflow_add-p
 overflow_add-p c =
-    let loop = c.loop-at in
-    let room = leaf-fits loop.invariant.3 (omega arith) c.if-node-eq-LEAF_NODE.true in
+    let room = leaf-fits c.loop-node.invariant (omega arith) c.in-Leaf.ensures in
     omega arith
 
-pub loop-at-preserved-then-node-eq-LEAF_NODE : goal.loop-at-preserved-then-node-eq-LEAF_NODE
-loop-at-preserved-then-node-eq-LEAF_NODE c =
-    let loop = c.loop-at in
-    (omega arith, omega arith, omega arith, leaf_turn loop.invariant.3 (omega arith) c.if-node-eq-LEAF_NODE.true c.put_leaf.new.firsts c.put_leaf.new.stops c.put_leaf.ensures)
+pub push-requires-in-Empty : goal.push-requires-in-Empty
+push-requires-in-Empty c = empty-fits c.loop-node.invariant (omega arith) c.in-Empty.ensures
 
-pub put_empty-requires : goal.put_empty-requires
-put_empty-requires c =
-    let loop = c.loop-at in
-    let room = empty-fits loop.invariant.3 (omega arith) c.if-node-eq-EMPTY_NODE.true in
-    omega arith
+pub push-requires-in-Cat : goal.push-requires-in-Cat
+push-requires-in-Cat c = omega (arith, ap length c.pop-right.ensures, ap length c.pop-left.ensures, not_deep c.loop-node.invariant (omega arith))
 
-pub loop-at-preserved-then-node-eq-EMPTY_NODE : goal.loop-at-preserved-then-node-eq-EMPTY_NODE
-loop-at-preserved-then-node-eq-EMPTY_NODE c =
-    let loop = c.loop-at in
-    (omega arith, omega arith, omega arith, empty_turn loop.invariant.3 (omega arith) c.if-node-eq-EMPTY_NODE.true c.put_empty.new.firsts c.put_empty.new.stops c.put_empty.ensures)
+pub push-requires-in-Union : goal.push-requires-in-Union
+push-requires-in-Union c = omega (arith, ap length c.pop-right-in-Union.ensures, ap length c.pop-left-in-Union.ensures, not_deep c.loop-node.invariant (omega arith))
 
-pub overflow_sub-top : goal.overflow_sub-top
-overflow_sub-top c =
-    let loop = c.loop-at in
-    let room = cat-fits loop.invariant.3 (omega arith) c.if-node-eq-CAT_NODE.true in
-    omega arith
+pub push-requires-in-Star : goal.push-requires-in-Star
+push-requires-in-Star c = omega (arith, ap length c.pop-inner.ensures, not_deep c.loop-node.invariant (omega arith))
 
-pub overflow_sub-top-then-node-eq-CAT_NODE : goal.overflow_sub-top-then-node-eq-CAT_NODE
-overflow_sub-top-then-node-eq-CAT_NODE c =
-    let loop = c.loop-at in
-    let room = cat-fits loop.invariant.3 (omega arith) c.if-node-eq-CAT_NODE.true in
-    omega arith
-
-pub put_cat-requires : goal.put_cat-requires
-put_cat-requires c =
-    let loop = c.loop-at in
-    let room = cat-fits loop.invariant.3 (omega arith) c.if-node-eq-CAT_NODE.true in
-    let deep = not_deep loop.invariant.3 in
-    omega arith
-
-pub loop-at-preserved-then-node-eq-CAT_NODE : goal.loop-at-preserved-then-node-eq-CAT_NODE
-loop-at-preserved-then-node-eq-CAT_NODE c =
-    let loop = c.loop-at in
-    (omega arith, omega arith, omega arith, cat_turn loop.invariant.3 (omega arith) c.if-node-eq-CAT_NODE.true c.put_cat.new.follow c.put_cat.new.firsts c.put_cat.new.stops c.put_cat.ensures)
-
-pub overflow_sub-top-then-node-eq-UNION_NODE : goal.overflow_sub-top-then-node-eq-UNION_NODE
-overflow_sub-top-then-node-eq-UNION_NODE c =
-    let loop = c.loop-at in
-    let room = alt-fits loop.invariant.3 (omega arith) c.if-node-eq-UNION_NODE.true in
-    omega arith
-
-pub overflow_sub-top-then-node-eq-UNION_NODE-2 : goal.overflow_sub-top-then-node-eq-UNION_NODE-2
-overflow_sub-top-then-node-eq-UNION_NODE-2 c =
-    let loop = c.loop-at in
-    let room = alt-fits loop.invariant.3 (omega arith) c.if-node-eq-UNION_NODE.true in
-    omega arith
-
-pub put_union-requires : goal.put_union-requires
-put_union-requires c =
-    let loop = c.loop-at in
-    let room = alt-fits loop.invariant.3 (omega arith) c.if-node-eq-UNION_NODE.true in
-    let deep = not_deep loop.invariant.3 in
-    omega arith
-
-pub loop-at-preserved-then-node-eq-UNION_NODE : goal.loop-at-preserved-then-node-eq-UNION_NODE
-loop-at-preserved-then-node-eq-UNION_NODE c =
-    let loop = c.loop-at in
-    (omega arith, omega arith, omega arith, alt_turn loop.invariant.3 (omega arith) c.if-node-eq-UNION_NODE.true c.put_union.new.firsts c.put_union.new.stops c.put_union.ensures)
-
-pub overflow_sub-top-else-node-eq-UNION_NODE : goal.overflow_sub-top-else-node-eq-UNION_NODE
-overflow_sub-top-else-node-eq-UNION_NODE c =
-    let loop = c.loop-at in
-    let room = star-fits loop.invariant.3 (omega arith) (is_star _ c.if-node-eq-LEAF_NODE.false c.if-node-eq-EMPTY_NODE.false c.if-node-eq-CAT_NODE.false c.if-node-eq-UNION_NODE.false) in
-    omega arith
-
-pub put_star-requires : goal.put_star-requires
-put_star-requires c =
-    let loop = c.loop-at in
-    let room = star-fits loop.invariant.3 (omega arith) (is_star _ c.if-node-eq-LEAF_NODE.false c.if-node-eq-EMPTY_NODE.false c.if-node-eq-CAT_NODE.false c.if-node-eq-UNION_NODE.false) in
-    let deep = not_deep loop.invariant.3 in
-    omega arith
-
-pub loop-at-preserved : goal.loop-at-preserved
-loop-at-preserved c =
-    let loop = c.loop-at in
-    (omega arith, omega arith, omega arith, star_turn loop.invariant.3 (omega arith) (is_star _ c.if-node-eq-LEAF_NODE.false c.if-node-eq-EMPTY_NODE.false c.if-node-eq-CAT_NODE.false c.if-node-eq-UNION_NODE.false) c.put_star.new.follow c.put_star.new.stops c.put_star.ensures)
-
-pub returns : goal.returns
-returns c = finish c.loop-at.invariant.3 (omega arith)
+pub loop-node-preserved : goal.loop-node-preserved
+loop-node-preserved c =
+    let i = c.loop-node.invariant in
+    let h : c.loop-node.node-index < length c.args.nodes.now = omega arith in
+    elim c.match-from.branch [
+      | in-Leaf w ↦ rw (w.p-is, w.follow-is, w.waiting-is, w.push.ensures) (leaf_turn i h w.in-Leaf.ensures w.leaf.result w.leaf.ensures)
+      | in-Empty w ↦ rw (w.p-is, w.follow-is, w.waiting-is, w.push-in-Empty.ensures) (empty_turn i h w.in-Empty.ensures w.empty.result w.empty.ensures)
+      | in-Cat w ↦ rw (w.p-is, w.follow-is, w.waiting-is, w.push-in-Cat.ensures)
+          (cat_turn i h w.pop-right.ensures w.pop-left.ensures w.in-Cat.ensures w.link.ensures w.then.ensures)
+      | in-Union w ↦ rw (w.p-is, w.follow-is, w.waiting-is, w.push-in-Union.ensures)
+          (alt_turn i h w.pop-right-in-Union.ensures w.pop-left-in-Union.ensures w.in-Union.ensures w.or.ensures)
+      | in-Star w ↦ rw (w.p-is, w.follow-is, w.waiting-is, w.push-in-Star.ensures)
+          (star_turn i h w.pop-inner.ensures w.in-Star.ensures w.link-in-Star.ensures w.starred.ensures)
+    ]

@@ -1,31 +1,22 @@
-use mathlib.Core.Path.{refl}
-use Prim.Native.Nat.{◌+◌, ◌*◌}
+use mathlib.Core.Path.{sym}
 use native.Mathlib.Omega.{arith}
-use Rattle.bits.specs.Sets.{set_words, has}
-use Rattle.bits.proofs.Members.{words_start, words_turn, words_end}
+use Rattle.bits.proofs.Tables.{word_begun, word_done, later_none, bit_taken, link_start, link_same, link_turn, link_end}
 use Rattle.bits.proofs.link.Goals as goal
 
 pub loop-i-init : goal.loop-i-init
-loop-i-init c =
-    let args = c.args in
-    let g = args in
-    (omega arith, refl, λ p x. words_start p (has g.table.now p x) (has g.from.now g.k p) (has g.to.now g.j x))
+loop-i-init c = link_start c.args.table.now c.args.from c.args.to
+
+pub loop-b-init : goal.loop-b-init
+loop-b-init c = link_same c.loop-i.invariant (λ p. sym (word_begun c.args.from c.loop-i.i (omega arith) p))
+
+pub loop-b-preserved : goal.loop-b-preserved
+loop-b-preserved c =
+    let low = c.in-Some.ensures in
+    link_turn c.loop-b.invariant c.union.result _ (rw low.left (bit_taken c.args.from c.loop-i.i c.loop-b.word c.in-Some.b low.lowest))
+    (omega (arith, low.lowest.within)) c.union.ensures
 
 pub loop-i-preserved : goal.loop-i-preserved
-loop-i-preserved c =
-    let link-word = c.link_word in
-    let shared-slice-known3 = c.shared_slice_known-in-loop-i-1 in
-    let loop = c.loop-i in
-    let args = c.args in
-    let g = args in
-    let l = loop in
-    let w = link-word in
-    let f = (shared-slice-known3.given (set_words * g.k + l.i)).fits in
-    (omega arith, omega arith, words_turn g.table.now l.table w.new.table g.from.now g.k l.i (has g.to.now g.j) (omega arith) f l.invariant.2 w.ensures)
+loop-i-preserved c = link_same c.loop-b.invariant (λ p. rw c.in_default.ensures (word_done c.args.from c.loop-i.i p))
 
 pub returns : goal.returns
-returns c =
-    let args = c.args in
-    let g = args in
-    let l = c.loop-i in
-    λ p x. rw (words_end g.from.now g.k l.i p (omega arith)) at (l.invariant.2 p x)
+returns c = link_end c.loop-i.invariant (λ p. later_none c.args.from c.loop-i.i p (omega arith))

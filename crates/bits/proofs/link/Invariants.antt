@@ -1,15 +1,14 @@
-use mathlib.Core.Path.{◌≡◌}
-use mathlib.Core.Bool.{◌||◌, ◌&&◌}
-use Prim.Native.Nat.{ℕ, ◌*◌, ◌-◌, ◌≤◌}
-use lib.ListN.{length}
-use lib.Dec.{ltb}
-use Rattle.bits.specs.Sets.{set_words, word_bits, has}
+use Rattle.bits.proofs.Tables.{later, left, Linking}
 use Rattle.bits.proofs.link.Given as goal
 
 abbrev pub invariant-loop-i : goal.invariant-loop-i
 invariant-loop-i l =
-    (l.i ≤ set_words) × (length l.table ≡ length l.initial.table) × ((p x : ℕ) → has l.table p x ≡ (has l.initial.table p x || (ltb p (word_bits * l.i) && has l.from l.k p) && has l.to l.j x))
+    Linking l.fn.table l.from l.to (later l.from l.i) l.table
 
-abbrev pub decreases-loop-i : goal.decreases-loop-i
-decreases-loop-i l =
-    set_words - l.i
+abbrev pub invariant-loop-b : goal.invariant-loop-b
+invariant-loop-b l =
+    Linking l.fn.table l.from l.to (left l.from l.i l.word) l.table
+
+abbrev pub decreases-loop-b : goal.decreases-loop-b
+decreases-loop-b l =
+    l.word

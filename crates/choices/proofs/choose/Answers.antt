@@ -1,32 +1,25 @@
 use Rattle.choices.proofs.Along.{along_turn, along_end}
+use Rattle.choices.proofs.Picks.{start_below}
 use Rattle.mapping.proofs.Entries.{entries-length}
 use lib.ListN.{length}
 use native.Mathlib.Omega.{arith}
-use mathlib.Core.Path.{refl, ◌∙◌}
+use mathlib.Core.Path.{◌∙◌}
 use Rattle.choices.proofs.choose.Goals as goal
-
-pub loop-i-init : goal.loop-i-init
-loop-i-init c = (omega arith, omega arith, omega arith, refl, refl, λ P f r h. record { alive = h; whole = refl })
 
 pub loop-i-preserved : goal.loop-i-preserved
 loop-i-preserved c =
     let loop = c.loop-i in
-    let g = c.args in
-    let n = length g.name.now in
+    let rows = c.args.rows.now in
+    let n = length rows.name.now in
     let inside = c.loop-i-test.true in
-    let choice = c.choice-p.ensures in
-    let put = c.put.ensures in (
-      omega arith,
-      omega arith,
-      choice.result_lt_set_bits,
-      omega arith,
-      put.rest n inside ∙ loop.invariant.4,
-      λ P f r h.
+    let put = c.put.ensures in record {
+      within = rw c.unwrap_or-p.ensures (start_below c.choice.result c.choice.ensures.within);
+      beside = put.rest n inside ∙ loop.invariant.beside;
+      along = λ P f h.
           rw (put.there n inside)
-          (along_turn (entries-length n loop.mapping (omega arith)) (loop.invariant.5 P f r h) g.follow.now g.work.now f (r loop.i inside) inside choice.least_from),
-    )
+          (along_turn (entries-length n loop.mapping (omega arith)) (loop.invariant.along P f h) rows.tables.now.follow rows.work.now c.choice.result f.steps
+          (f.rows loop.i inside) inside c.choice.ensures.least c.unwrap_or-p.ensures);
+    }
 
-pub returns : goal.returns
-returns c =
-    let loop = c.loop-i in
-    record { mapping_after = λ P f r h. along_end (entries-length _ loop.mapping (omega arith)) (loop.invariant.5 P f r h) (omega arith); mapping_unchanged = loop.invariant.4 }
+pub returns-clause-mapping_after : goal.returns-clause-mapping_after
+returns-clause-mapping_after c P f h = along_end (entries-length _ c.loop-i.mapping (omega arith)) (c.loop-i.invariant.along P f h) (omega arith)

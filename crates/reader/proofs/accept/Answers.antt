@@ -1,35 +1,19 @@
-use mathlib.Core.Option.{none}
-use native.Mathlib.Omega.{arith}
-use Rattle.reader.proofs.Ends.{call_refused, accept_went}
-use Rattle.reader.proofs.Tests.{Fit, fit}
+use mathlib.Core.List.{[]}
+use mathlib.Core.Path.{refl, sym}
+use Rattle.rules.specs.Grounds.{answered}
+use Rattle.reader.specs.Outcome.{refused_with}
+use Rattle.reader.proofs.Ends.{refused_so, accept_went}
 use Rattle.reader.proofs.accept.Goals as goal
 
-pub returns-in-Refused : goal.returns-in-Refused
-returns-in-Refused c = call_refused c.call_test-t.ensures c.in-Refused.is
+pub returns-in_err-question : goal.returns-in_err-question
+returns-in_err-question c =
+    let work = c.args.work.now in
+    refused_so c.from_residual.result (refused_with [] work) c.in_err-question.field-0.0 [] work
+    c.in_err-question.ensures.reason c.from_residual.ensures.1 refl
 
--- Below, the call passed its tests.
-pub in_language-inside-requires : goal.in_language-inside-requires
-in_language-inside-requires c =
-    let g = c.args in
-    let f : Fit g.sheet.now g.name.now none g.work.now = fit c.call_test-t.ensures c.in_default.is in
-    (f.accepted, f.short, f.room)
-
-pub wipe_rows-requires : goal.wipe_rows-requires
-wipe_rows-requires c =
-    let g = c.args in
-    let f : Fit g.sheet.now g.name.now none g.work.now = fit c.call_test-t.ensures c.in_default.is in
-    (f.short, omega (arith, f.room, c.in_language-inside.auto.work))
-
-pub returns-then-inside : goal.returns-then-inside
-returns-then-inside c =
-    let g = c.args in
-    let f : Fit g.sheet.now g.name.now none g.work.now = fit c.call_test-t.ensures c.in_default.is in
+pub returns : goal.returns
+returns c =
+    let q = c.in_ok-question.ensures in
     let inside = c.in_language-inside in
-    accept_went f inside.new.work (inside.ensures.value, inside.ensures.name_unchanged) c.wipe_rows.ensures c.if-inside.true
-
-pub returns-else-inside : goal.returns-else-inside
-returns-else-inside c =
-    let g = c.args in
-    let f : Fit g.sheet.now g.name.now none g.work.now = fit c.call_test-t.ensures c.in_default.is in
-    let inside = c.in_language-inside in
-    accept_went f inside.new.work (inside.ensures.value, inside.ensures.name_unchanged) c.wipe_rows.ensures c.if-inside.false
+    rw c.wipe_rows.ensures
+    (answered (sym q.reason) (accept_went q.same.0 q.same.1 [] _ _ (sym q.reason) inside.result inside.ensures.value inside.ensures.rest_unchanged))

@@ -1,33 +1,19 @@
-use mathlib.Core.Option.{some}
-use lib.ListN.{length}
-use Rattle.reader.proofs.Ends.{call_refused, check_went}
-use Rattle.reader.proofs.Tests.{Fit, fit}
+use mathlib.Core.Path.{refl, sym}
+use Rattle.rules.specs.Grounds.{answered}
+use Rattle.reader.specs.Outcome.{refused_with}
+use Rattle.reader.proofs.Ends.{refused_so, check_went}
 use Rattle.reader.proofs.check.Goals as goal
 
-pub returns-in-Refused : goal.returns-in-Refused
-returns-in-Refused c = call_refused c.call_test-t.ensures c.in-Refused.is
-
--- Below, the call passed its tests.
-pub given_reading-right-requires : goal.given_reading-right-requires
-given_reading-right-requires c =
+pub returns-in_err-question : goal.returns-in_err-question
+returns-in_err-question c =
     let g = c.args in
-    let f : Fit g.sheet.now g.name.now (some (length g.mapping.now)) g.work.now = fit c.call_test-t.ensures c.in_default.is in
-    (f.accepted, f.held)
+    refused_so c.from_residual.result (refused_with g.mapping.now g.work.now) c.in_err-question.field-0.0 g.mapping.now g.work.now
+    c.in_err-question.ensures.reason c.from_residual.ensures.1 refl
 
-pub wipe_rows-requires : goal.wipe_rows-requires
-wipe_rows-requires c =
-    let g = c.args in
-    let f : Fit g.sheet.now g.name.now (some (length g.mapping.now)) g.work.now = fit c.call_test-t.ensures c.in_default.is in
-    (f.short, f.room)
-
-pub returns-then-right : goal.returns-then-right
-returns-then-right c =
-    let g = c.args in
-    let f : Fit g.sheet.now g.name.now (some (length g.mapping.now)) g.work.now = fit c.call_test-t.ensures c.in_default.is in
-    check_went f c.given_reading-right.ensures c.wipe_rows.ensures c.if-right.true
-
-pub returns-else-right : goal.returns-else-right
-returns-else-right c =
-    let g = c.args in
-    let f : Fit g.sheet.now g.name.now (some (length g.mapping.now)) g.work.now = fit c.call_test-t.ensures c.in_default.is in
-    check_went f c.given_reading-right.ensures c.wipe_rows.ensures c.if-right.false
+pub returns : goal.returns
+returns c =
+    let q = c.in_ok-question.ensures in
+    let work = c.args.work.now in
+    rw c.wipe_rows.ensures
+    (answered (sym q.reason)
+    (check_went q.same.0 q.same.1 c.args.mapping.now work work (sym q.reason) c.given_reading-reads.result c.given_reading-reads.ensures))

@@ -1,37 +1,22 @@
-use mathlib.Core.Option.{some}
-use lib.ListN.{length}
+use mathlib.Core.Path.{refl, sym}
 use native.Mathlib.Omega.{arith}
-use Rattle.reader.proofs.Ends.{wiped-refused, next_went}
-use Rattle.reader.proofs.Tests.{Fit, fit}
+use Rattle.rules.specs.Grounds.{answered}
+use Rattle.rules.specs.Limits.{wiped}
+use Rattle.reader.specs.Outcome.{refused_with}
+use Rattle.reader.proofs.Ends.{refused_so, next_went}
 use Rattle.reader.proofs.next.Goals as goal
 
-pub returns-in-Refused : goal.returns-in-Refused
-returns-in-Refused c = wiped-refused c.args.mapping.now c.call_test-t.ensures c.in-Refused.is c.refuse.ensures
+pub returns-in_err-question : goal.returns-in_err-question
+returns-in_err-question c =
+    let work = c.args.work.now in
+    refused_so c.from_residual.result (refused_with (wiped c.args.mapping.now) work) c.in_err-question.field-0.0 c.to_search.new.mapping work
+    c.in_err-question.ensures.reason c.from_residual.ensures.1 (rw c.in_err-question.ensures.refused refl)
 
--- Below, the call passed its tests.
-pub next_reading-s-requires : goal.next_reading-s-requires
-next_reading-s-requires c =
-    let g = c.args in
-    let f : Fit g.sheet.now g.name.now (some (length g.mapping.now)) g.work.now = fit c.call_test-t.ensures c.in_default.is in
-    (f.accepted, f.short, f.held, f.room)
-
-pub wipe_rows-requires : goal.wipe_rows-requires
-wipe_rows-requires c =
-    let g = c.args in
-    let f : Fit g.sheet.now g.name.now (some (length g.mapping.now)) g.work.now = fit c.call_test-t.ensures c.in_default.is in
-    (f.short, omega (arith, f.room, c.next_reading-s.auto.work))
-
-pub settle-requires : goal.settle-requires
-settle-requires c =
-    let g = c.args in
-    let f : Fit g.sheet.now g.name.now (some (length g.mapping.now)) g.work.now = fit c.call_test-t.ensures c.in_default.is in
-    omega (arith, f.held, c.next_reading-s.auto.mapping)
-
--- What the search came to is what the call answers and leaves.
 pub returns : goal.returns
 returns c =
-    let g = c.args in
-    let f : Fit g.sheet.now g.name.now (some (length g.mapping.now)) g.work.now = fit c.call_test-t.ensures c.in_default.is in
-    let found = c.next_reading-s in
-    next_went f found.result found.new.mapping found.new.work found.auto.mapping
-    (found.ensures.next_made, found.ensures.name_unchanged) c.wipe_rows.ensures c.settle.ensures
+    let q = c.in_ok-question.ensures in
+    let found = c.next_reading-found in
+    rw (c.keep.ensures.0, c.keep.ensures.1)
+    (answered (sym q.reason)
+    (next_went q.same.0 q.same.1 c.args.mapping.now c.args.work.now _ (sym q.reason) _ (omega (arith, found.auto.mapping, c.to_search.auto.mapping))
+    found.result (rw q.same.2 at found.ensures.next_made) found.ensures.rest_unchanged))

@@ -1,15 +1,9 @@
-use lib.ListN.{length}
-use mathlib.Core.Path.{◌≡◌}
-use Prim.Native.Nat.{ℕ, ◌-◌, ◌≤◌}
-use Rattle.buffers.specs.Wrote.{Wrote}
-use Rattle.repeats.proofs.Copies.{steps}
+use Prim.Native.Nat.{ℕ, ◌-◌}
+use Rattle.sheet.specs.Make.{postorder}
+use Rattle.buffers.specs.Wrote.{Added}
+use Rattle.repeats.proofs.Copies.{joined}
 use Rattle.repeats.proofs.repeat.Given as goal
 
--- After i copies the nodes of i copies are stored; after y of them they are those of the tree.
+-- After i copies their nodes are stored; after y of them they are those of the tree.
 abbrev pub invariant-loop-i : goal.invariant-loop-i
-invariant-loop-i l =
-    ((b : ℕ) → Wrote l.n l.initial.nodes l.m l.nodes (steps b l.x 0 l.i)) × (length l.nodes ≡ length l.initial.nodes) × (l.i ≤ l.y)
-
-abbrev pub decreases-loop-i : goal.decreases-loop-i
-decreases-loop-i l =
-    l.y - l.i
+invariant-loop-i g l = (b : ℕ) → Added l.fn.nodes l.nodes (postorder (joined b l.x (l.i - 1)))

@@ -1,37 +1,39 @@
 use Rattle.rows.proofs.Live.{rows_start, rows_turn, row_later}
+use Rattle.rows.proofs.Parts.{part_after, row_back, after_back}
+use Rattle.rules.specs.Limits.{row_size}
 use lib.ListN.{length}
 use native.Mathlib.Omega.{arith}
-use Prim.Native.Nat.{◌+◌, ◌-◌}
-use mathlib.Core.Path.{◌≡◌, refl, ◌∙◌}
+use Prim.Native.Nat.{◌+◌, ◌-◌, ◌*◌, ◌≤◌}
+use mathlib.Core.Path.{◌≡◌, ◌∙◌}
 use Rattle.rows.proofs.fill.Goals as goal
-
-pub returns-then-i-eq0 : goal.returns-then-i-eq0
-returns-then-i-eq0 c = record { rows_of = λ P f s l i h. absurd (omega arith); name_unchanged = refl }
 
 pub loop-i-init : goal.loop-i-init
 loop-i-init c =
-    let x = c.last_at in
     let g = c.args in
-    (omega arith, refl, λ P f s l. rows_start P g.name.now x.new.work (length g.name.now - 1) (omega arith) (x.ensures.last_live P s l), refl)
+    let i = c.in-Some.last in
+    let row = c.fill_last.new.row in
+    let filled = c.fill_last.ensures in
+    let whole = c.in-Some.ensures in
+    let fits : row_size * i ≤ length g.work.now = omega arith in
+    let end : i + 1 ≡ length g.name.now = omega arith in
+    record {
+      rows = λ P f s l. rows_start P g.name.now _ i (omega arith) (rw (row_back g.work.now i row fits) (filled.last_live P s l));
+      rest_unchanged = rw end at (after_back g.work.now i row fits filled.rest);
+    }
 
 pub loop-i-preserved : goal.loop-i-preserved
 loop-i-preserved c =
     let g = c.args in
     let l = c.loop-i in
-    let x = c.row_at in
-    let filled = x.new.work in (
-      omega arith,
-      omega arith,
-      λ P f s t.
-          rows_turn P g.name.now l.work filled (l.i - 1) l.i (omega arith) l.invariant.0 x.ensures.i_unchanged
-          (λ b bs old. x.ensures.live P b bs f t old) (l.invariant.2 P f s t),
-      row_later l.work filled (l.i - 1) (length g.name.now) (omega arith) x.ensures.i_unchanged ∙ l.invariant.3,
-    )
-
-pub returns : goal.returns
-returns c =
-    let g = c.args in
-    let l = c.loop-i in
-    let x = c.last_at in
-    let e : length g.name.now - 1 + 1 ≡ length g.name.now = omega arith in
-    record { rows_of = λ P f s t i h. l.invariant.2 P f s t i (omega arith) h; name_unchanged = l.invariant.3 ∙ rw e at x.ensures.i_unchanged }
+    let i = l.i - 1 in
+    let row = c.fill_row.new.row in
+    let filled = c.fill_row.ensures in
+    let whole = c.in-Some.ensures in
+    let fits : row_size * i ≤ length l.work = omega arith in
+    let later = after_back l.work i row fits filled.rest in
+    record {
+      rows = λ P f s t.
+          rows_turn P g.name.now l.work _ i l.i (omega arith) (omega arith) later
+          (λ b bs old. rw (row_back l.work i row fits) (filled.live P b bs f t (rw (part_after l.work i) old))) (l.invariant.rows P f s t);
+      rest_unchanged = row_later l.work _ i (length g.name.now) (omega arith) later ∙ l.invariant.rest_unchanged;
+    }

@@ -1,31 +1,20 @@
-use mathlib.Core.Path.{ap}
-use Rattle.sheet_call.specs.Answer.{sheet_end}
-use Rattle.sheet_call.specs.declared.SheetAnswer.{SheetAnswer as Made}
-use Rattle.satchelram.proofs.Small.{parts_fit, sheet_exports}
+use Rattle.std.proofs.Common.{ℕ, ap, ◌∙◌}
+use Rattle.satchelram.specs.Packing.{packed}
+use Rattle.satchelram.proofs.Small.{sheet-fits, sheet_exports}
 use Rattle.satchelram.proofs.satchelram_sheet.Goals as goal
 
 pub pack-requires : goal.pack-requires
 pack-requires c =
-    let make = c.make-a in
-    let g = c.args in
-    let w = parts_fit g.text.now g.sheet.now make.new.sheet make.result 0 c.in-Made.n (ap (λ (x : Made). sheet_end x make.new.sheet) c.in-Made.is) make.ensures in
+    let w = sheet-fits _ _ _ c.in-Ok.ensures in
     (w.low, w.high)
 
-pub pack-requires-in-Refused : goal.pack-requires-in-Refused
-pack-requires-in-Refused c =
-    let make = c.make-a in
-    let g = c.args in
-    let w = parts_fit g.text.now g.sheet.now make.new.sheet make.result c.in-Refused.f.number c.in-Refused.f.place (ap (λ (x : Made). sheet_end x make.new.sheet) c.in-Refused.is) make.ensures in
-    (w.low, w.high)
+pub pack-requires-in-Err : goal.pack-requires-in-Err
+pack-requires-in-Err c =
+    let w = sheet-fits _ _ _ c.in-Err.ensures in
+    (rw c.number.ensures w.low, w.high)
 
-pub returns-in-Made : goal.returns-in-Made
-returns-in-Made c =
-    let make = c.make-a in
-    let g = c.args in
-    sheet_exports g.text.now g.sheet.now make.new.sheet make.result 0 c.in-Made.n (ap (λ (x : Made). sheet_end x make.new.sheet) c.in-Made.is) make.ensures c.pack.result c.pack.ensures
+pub returns-in-Ok : goal.returns-in-Ok
+returns-in-Ok c = sheet_exports _ _ _ c.in-Ok.ensures c.pack.ensures
 
-pub returns-in-Refused : goal.returns-in-Refused
-returns-in-Refused c =
-    let make = c.make-a in
-    let g = c.args in
-    sheet_exports g.text.now g.sheet.now make.new.sheet make.result c.in-Refused.f.number c.in-Refused.f.place (ap (λ (x : Made). sheet_end x make.new.sheet) c.in-Refused.is) make.ensures c.pack-in-Refused.result c.pack-in-Refused.ensures
+pub returns-in-Err : goal.returns-in-Err
+returns-in-Err c = sheet_exports _ _ _ c.in-Err.ensures (c.pack-in-Err.ensures ∙ ap (λ (n : ℕ). packed n c.in-Err.f.place 0) c.number.ensures)

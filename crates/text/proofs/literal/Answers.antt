@@ -10,15 +10,13 @@ pub returns-then-plain_at : goal.returns-then-plain_at
 returns-then-plain_at c =
     let args = c.args in
     let plain = sym c.plain_at.ensures ∙ c.if-plain_at.true in
-    λ d. c.stars.ensures d (state args.from args.nodes.now args.lits.now) c.emit.new.bytes
-    (part_plain plain c.emit-then-plain_at.ensures c.emit.ensures) (plain_onward c.requires.0 (plain_inside args.text.now args.from.place plain))
+    λ d. c.stars.ensures d (state args.place args.draft.now) (part_plain plain c.leaf.ensures)
+    (plain_onward c.requires.begun (plain_inside args.text.bytes.now args.place plain) c.leaf.ensures)
 
-pub stars-requires-in-Of : goal.stars-requires-in-Of
-stars-requires-in-Of c = begun (literal_onward c.requires.0 c.in-Of.ensures (c.repeat-n.ensures c.in-Of.b) c.emit_times-l.ensures) c.requires.0.short
+pub stars-requires-2 : goal.stars-requires-2
+stars-requires-2 c = begun (literal_onward c.requires.begun c.in_ok-literal.ensures c.copies.ensures)
 
-pub returns-in-Of : goal.returns-in-Of
-returns-in-Of c =
-    let args = c.args in
-    let nodes = c.repeat-n.ensures c.in-Of.b in
-    λ d. c.stars-in-Of.ensures d (state args.from args.nodes.now args.lits.now) c.emit_times-l.new.bytes
-    (part_literal c.in-Of.ensures nodes c.emit_times-l.ensures) (literal_onward c.requires.0 c.in-Of.ensures nodes c.emit_times-l.ensures)
+pub returns : goal.returns
+returns c =
+    λ d. c.stars-2.ensures d (state c.args.place c.args.draft.now) (part_literal c.in_ok-literal.ensures c.copies.ensures)
+    (literal_onward c.requires.begun c.in_ok-literal.ensures c.copies.ensures)

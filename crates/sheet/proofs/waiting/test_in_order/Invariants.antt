@@ -1,13 +1,8 @@
-use Prim.Native.Nat.{◌≤◌, ◌-◌}
-use lib.ListN.{length}
+use Prim.Native.Nat.{◌≤◌}
 use Rattle.sheet.proofs.Tests.{Counted}
 use Rattle.sheet.proofs.waiting.test_in_order.Given as goal
 
--- The nodes left decide, from the counts so far, as all nodes do from none: one law for each way through a turn.
-abbrev pub invariant-loop-i : goal.invariant-loop-i
-invariant-loop-i l =
-    (l.i ≤ length l.nodes) × (l.waiting ≤ l.i) × (l.leaves ≤ l.i) × Counted l.nodes l.i l.waiting l.most l.leaves
-
-abbrev pub decreases-loop-i : goal.decreases-loop-i
-decreases-loop-i l =
-    length l.nodes - l.i
+-- The nodes left decide, from the counts so far, as all nodes do from none.
+abbrev pub invariant-loop-byte : goal.invariant-loop-byte
+invariant-loop-byte l =
+    record { waiting_fits : l.waiting ≤ l.byte-index; leaves_fit : l.leaves ≤ l.byte-index; counted : Counted l.nodes l.byte-index l.waiting l.most l.leaves }

@@ -1,0 +1,6 @@
+use Rattle.reader.proofs.Searches.{reading_told}
+use Rattle.reader.proofs.Question.given_reading.Goals as goal
+
+-- The tables are those of what the sheet stands for, and the entries are followed in them.
+pub returns : goal.returns
+returns c = reading_told c.args.self.sheet.bytes.now c.of.result c.of.ensures c.is_reading.ensures.value
