@@ -59,16 +59,35 @@ fn spelled(variant: &str) -> String {
     word
 }
 
-/// The library's constants and the variants of its faults have the header's words and numbers, and none is missing.
+/// The library's constants have the header's words and numbers, and none is missing.
 #[test]
 fn the_library_has_the_headers_words() {
     let rules = text("../crates/rules/src/lib.rt");
-    let mut words = named(&rules, "pub const ", ": u64 = ", ";");
-    for source in [rules, text("../crates/sheet/src/lib.rt")] {
-        let variants = named(&source, "    ", " = ", ",");
-        words.extend(variants.iter().map(|(name, value)| (spelled(name), *value)));
-    }
+    let mut words = named(&rules, "pub const ", ": usize = ", ";");
+    words.retain(|name, _| !name.ends_with("_LIMIT") && !name.ends_with("_SIZE"));
+    words.extend(named(&rules, "pub const ", ": u64 = ", ";"));
     assert_eq!(words, header_numbers());
+}
+
+/// Each fault of a text and of a sheet is given by the constant of its own name, and no number of theirs has none.
+#[test]
+fn the_faults_have_the_constants_of_their_names() {
+    let mut faults = Vec::new();
+    for path in ["../crates/rules/src/lib.rt", "../crates/sheet/src/lib.rt"] {
+        for line in text(path).lines() {
+            let given = line
+                .strip_suffix(" as isize,")
+                .and_then(|line| line.split_once(" = "));
+            let Some((variant, constant)) = given else {
+                continue;
+            };
+            let constant = constant.strip_prefix("rules::").unwrap_or(constant);
+            assert_eq!(spelled(variant.trim()), constant);
+            faults.push(header_numbers()[constant]);
+        }
+    }
+    faults.sort();
+    assert_eq!(faults, (10..=27).collect::<Vec<usize>>());
 }
 
 /// The header's version is that of this package and of the newest release in CHANGELOG.md.

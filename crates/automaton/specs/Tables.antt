@@ -1,8 +1,8 @@
 -- What the tables of a pattern hold. Position 0 is the start.
-use Rattle.std.specs.Prelude.{◌≡◌, Bool, cond, ◌&&◌, List, ℕ, ◌+◌, ◌<◌, leb, ltb}
+use Rattle.std.specs.Prelude.{◌≡◌, Bool, cond, ◌&&◌, List, ℕ, ◌+◌, ◌<◌, ◌≤◌, length, leb, ltb}
 use Rattle.rules.specs.Limits.{highest_byte}
 use Rattle.bits.specs.declared.Set.{Set}
-use Rattle.bits.specs.Sets.{set_bits, member, has}
+use Rattle.bits.specs.Sets.{set_bits, member, has, Empty}
 use Rattle.language.specs.Tree.{size}
 use Rattle.language.specs.Reading.{Pattern}
 use Rattle.language.specs.Follow.{step, stop}
@@ -31,6 +31,13 @@ takes_at P b q = leb 1 q && leb q (size P.tree) && P.takes q b
 -- the set of the byte b in `letters` has the positions that take b
 abbrev pub Letters : Pattern → List Set → Type 0
 Letters P letters = (b q : ℕ) → has letters (letter_of b) q ≡ takes_at P b q
+
+-- the tables of no sheet: nothing may follow anything, and no position takes a byte
+pub record Blank (t : Tables) : Type 0 where
+  pub steps : Empty t.follow
+  pub letter : Empty t.letters
+  pub positions : set_bits ≤ length t.follow
+  pub bytes : letter_sets ≤ length t.letters
 
 -- the tables of a pattern, whose positions fit a set
 pub record TablesOf (P : Pattern) (t : Tables) : Type 0 where

@@ -1,5 +1,5 @@
 -- What is known while the nodes are read: the fragments of the waiting subtrees, and what follows what so far.
-use Rattle.std.specs.Prelude.{◌≡◌, Bool, false, ◌||◌, ◌&&◌, List, [], ◌∷◌, ℕ, suc, leb}
+use Rattle.std.specs.Prelude.{◌≡◌, Bool, false, ◌||◌, ◌&&◌, List, [], ◌∷◌, ℕ, suc, eqb, leb}
 use Rattle.language.specs.Tree.{Tree}
 use Rattle.language.specs.Follow.{first, follow, stop}
 use Rattle.sheet.specs.Layout.{takes}
@@ -11,6 +11,10 @@ use Rattle.automaton.specs.declared.Fragment.{Fragment}
 pub record FragmentOf (t : Tree ℕ) (f : Fragment) : Type 0 where
   pub begins : (q : ℕ) → member f.firsts q ≡ first t q
   pub ends : (q : ℕ) → member f.stops q ≡ stop t q
+
+-- the set has the position p alone
+abbrev pub Only : ℕ → Set → Type 0
+Only p s = (x : ℕ) → member s x ≡ eqb x p
 
 -- the fragments of the waiting subtrees, the last made first
 abbrev pub Held : List Fragment → List (Tree ℕ) → Type 0

@@ -10,8 +10,8 @@ ghost use Rattle.sheet.specs.Nodes.{node_of, build};
 ghost use Rattle.sheet.specs.Layout.{leaf_count};
 ghost use Rattle.sheet.specs.Stands.{stands_for};
 ghost use Rattle.bits.specs.Sets.{set_bits, member, has, Empty};
-ghost use Rattle.automaton.specs.Tables.{letter_sets, letter_of, TablesOf};
-ghost use Rattle.automaton.specs.Walk.{FragmentOf, State, LettersTo};
+ghost use Rattle.automaton.specs.Tables.{letter_sets, letter_of, Blank, TablesOf};
+ghost use Rattle.automaton.specs.Walk.{FragmentOf, Only, State, LettersTo};
 
 use bits::Set;
 use sheet::{Node, Sheet};
@@ -36,12 +36,10 @@ impl Fragment {
         }
     }
 
-    // The leaf at the position p.
-    fn leaf(p: usize) -> Fragment
-        requires { (1 ≤ p) × (p < set_bits) }
-        ensures { FragmentOf (leaf p) result }
+    // The leaf at the position that the set has alone.
+    fn leaf(alone: Set) -> Fragment
+        ensures { (p : ℕ) → 1 ≤ p → Only p alone → FragmentOf (leaf p) result }
     {
-        let alone = Set::of(p);
         Fragment {
             firsts: alone,
             stops: alone,
@@ -150,12 +148,13 @@ fn walk(nodes: &[u8], follow: &mut [Set]) -> Fragment
 {
     let mut fragments = [Fragment::none(); rules::WAITING_LIMIT];
     let mut waiting = Waiting::on(&mut fragments);
-    let mut p = 1;
+    // The set of the next leaf's position alone. Each leaf moves it on, so that none is made anew.
+    let mut alone = Set::of(1);
     for node in nodes {
         match Node::from(*node) {
             Node::Leaf => {
-                waiting.push(Fragment::leaf(p));
-                p += 1;
+                waiting.push(Fragment::leaf(alone));
+                alone = alone.moved();
             }
             Node::Empty => waiting.push(Fragment::empty()),
             Node::Cat => {
@@ -203,18 +202,35 @@ pub struct Tables {
 }
 
 impl Tables {
+    // Of no sheet yet.
+    pub fn new() -> Tables
+        ensures { Blank result }
+    {
+        let none = Set::new();
+        Tables {
+            follow: [none; bits::SET_BITS],
+            stops: none,
+            letters: [none; LETTER_SETS],
+        }
+    }
+
+    // Reads a sheet into tables of none, where they lie, so that no table is copied.
+    pub fn read(&mut self, sheet: Sheet)
+        requires { Blank self.old }
+        ensures { (P : Pattern) → stands_for sheet.entry.bytes.now ≡ some P → TablesOf P self.new }
+    {
+        let whole = walk(sheet::nodes(sheet.bytes), &mut self.follow);
+        self.follow[0] = whole.firsts;
+        self.stops = whole.stops;
+        put_letters(sheet, &mut self.letters);
+    }
+
+    // The tables of a sheet as a value, for a caller that may copy them.
     pub fn of(sheet: Sheet) -> Tables
         ensures { (P : Pattern) → stands_for sheet.entry.bytes.now ≡ some P → TablesOf P result }
     {
-        let mut tables = Tables {
-            follow: [Set::new(); bits::SET_BITS],
-            stops: Set::new(),
-            letters: [Set::new(); LETTER_SETS],
-        };
-        let whole = walk(sheet::nodes(sheet.bytes), &mut tables.follow);
-        tables.follow[0] = whole.firsts;
-        tables.stops = whole.stops;
-        put_letters(sheet, &mut tables.letters);
+        let mut tables = Tables::new();
+        tables.read(sheet);
         tables
     }
 

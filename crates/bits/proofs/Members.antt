@@ -1,9 +1,9 @@
 -- A set by its words: what a store to a word does to the members, and the members of a union and of an intersection.
 use mathlib.Core.Path.{◌≡◌, refl, ap, sym, ◌∙◌}
 use mathlib.Core.Logic.{by_cases}
-use mathlib.Core.Bool.{Bool, true, false, cond, not, ◌||◌, ◌&&◌, and-true, or-false}
+use mathlib.Core.Bool.{Bool, true, false, cond, not, ◌||◌, ◌&&◌, and-true, and-false, or-false}
 use mathlib.Core.List.{[], ◌∷◌}
-use Prim.Native.Nat.{ℕ, zero, suc, ◌+◌, ◌*◌, ◌/◌, ◌%◌, ◌^◌, ◌<◌, ◌≤◌}
+use Prim.Native.Nat.{ℕ, zero, suc, ◌+◌, ◌*◌, ◌/◌, ◌%◌, ◌^◌, ◌-◌, ◌<◌, ◌≤◌}
 use native.Mathlib.Decide.{dec_lt, ℕ_discrete}
 use native.Mathlib.Nat.{one-mul}
 use native.Mathlib.Omega.{arith}
@@ -11,12 +11,12 @@ use lib.Bits.{bit_or, bit_and}
 use lib.Pow.{shl_exact}
 use lib.ListN.{length, get_or, set}
 use lib.Seq.{get_or-set_same, get_or-set_other}
-use lib.Dec.{eqb, ltb}
-use borrow.Author.Tests.{eq-eqb, ne_eqb, lt-ltb, le-ltb, ltb-true}
+use lib.Dec.{eqb, leb, ltb}
+use borrow.Author.Tests.{eq-eqb, ne_eqb, le-leb, lt-ltb, le-ltb, ltb-true}
 use Rattle.rules.proofs.Truth.{and_true_left}
 use Rattle.bits.specs.declared.Set.{Set}
 use Rattle.bits.specs.Sets.{word_bits, set_words, set_bits, bit, empty_set, member}
-use Rattle.bits.proofs.Bits.{bit-or, bit_and_lem, bit_zero, bit_pow, bit_test, bit_even_mask}
+use Rattle.bits.proofs.Bits.{bit-or, bit_and_lem, bit_zero, bit_pow, bit_test, bit_even_mask, bit_shr, bit_shl, no-bit}
 
 -- ---- a set by its words
 
@@ -145,3 +145,48 @@ module _ (s t r : Set) where
       by_words r (λ x. member s x && member t x)
       (λ x l. rw (member_out s x l) refl)
       (λ i x l e. rw (h i l, bit_and_lem, word_at s i x l e, word_at t i x l e) refl)
+
+-- ---- each member one on
+
+-- the bit that goes from one word into word i
+abbrev pub carried : Set → ℕ → ℕ
+carried s i = cond (eqb i 0) 0 (get_or s.words (i - 1) 0 / 2 ^ 63)
+
+-- w is word i of s, moved up by a bit
+abbrev pub Moved : Set → ℕ → ℕ → Type 0
+Moved s i w = (get_or s.words i 0 < 2 ^ word_bits) × (w ≡ bit_or (get_or s.words i 0 * 2 ^ 1 % 2 ^ word_bits) (carried s i))
+
+pub carried_start : (s : Set) → 0 ≡ carried s 0
+carried_start s = refl
+
+pub carried_turn : (s : Set) (i : ℕ) → get_or s.words i 0 / 2 ^ 63 ≡ carried s (i + 1)
+carried_turn s i = let e : i + 1 - 1 ≡ i = omega arith in rw (ne_eqb (i + 1) 0 (λ z. omega arith), e) refl
+
+pub moved_end : (s r : Set) → ((i : ℕ) → i < set_words → Moved s i (get_or r.words i 0)) → (x : ℕ)
+    → member r x ≡ (leb 1 x && ltb x set_bits && member s (x - 1))
+moved_end s r h = by_words r (λ x. leb 1 x && ltb x set_bits && member s (x - 1)) (λ x b. rw (le-ltb x set_bits b, and-false) refl) go
+  where
+    none : (i b : ℕ) → i < set_words → 1 ≤ b → bit (carried s i) b ≡ false
+    none i b k l =
+        by_cases (ℕ_discrete i 0)
+        (λ (d : i ≡ 0). rw d (bit_zero b))
+        (λ (d : ¬ (i ≡ 0)). rw (ne_eqb i 0 d, bit_shr) (no-bit (get_or s.words (i - 1) 0) (63 + b) word_bits (h (i - 1) (omega arith)).0 (omega arith)))
+
+    word : (i x : ℕ) → i < set_words → x / word_bits ≡ i → (leb 1 (x % word_bits) && bit (get_or s.words i 0) (x % word_bits - 1) || bit (carried s i) (x % word_bits)) ≡ (leb 1 x && member s (x - 1))
+    word i x b e =
+        by_cases (ℕ_discrete (x % word_bits) 0)
+        (λ (z : x % word_bits ≡ 0).
+        by_cases (ℕ_discrete i 0)
+        (λ (d : i ≡ 0). let n : x ≡ 0 = omega arith in rw (d, n) (bit_zero 0))
+        (λ (d : ¬ (i ≡ 0)).
+        let m : (x - 1) % word_bits ≡ 63 = omega arith in
+        rw (z, ne_eqb i 0 d, le-leb 1 x (omega arith), bit_shr) (rw m at (word_at s (i - 1) (x - 1) (omega arith) (omega arith)))))
+        (λ (z : ¬ (x % word_bits ≡ 0)).
+        let m : (x - 1) % word_bits ≡ x % word_bits - 1 = omega arith in
+        rw (le-leb 1 (x % word_bits) (omega arith), le-leb 1 x (omega arith), none i (x % word_bits) b (omega arith), or-false) (rw m at (word_at s i (x - 1) b (omega arith))))
+
+    go : (i x : ℕ) → i < set_words → x / word_bits ≡ i → bit (get_or r.words i 0) (x % word_bits) ≡ (leb 1 x && ltb x set_bits && member s (x - 1))
+    go i x b e =
+        rw ((h i b).1, bit-or, bit_shl (get_or s.words i 0) 1 word_bits (x % word_bits) (omega arith), lt-ltb x set_bits (omega arith), and-true) (word i x b e)
+
+pub ruleset moving = (carried_start, carried_turn, moved_end)

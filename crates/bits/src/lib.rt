@@ -1,19 +1,22 @@
 // Sets of positions as bits: machine words in tables and locals, bytes in a row of the work area.
 #![tactic(auto)]
 
-ghost use Rattle.std.specs.Prelude.{◌≡◌, ◌||◌, ◌&&◌, false, not, MatchOption, ℕ, ◌+◌, ◌*◌, ◌/◌, ◌%◌, ◌^◌, ◌≤◌, ◌<◌, length, get_or, eqb};
+ghost use Rattle.std.specs.Prelude.{◌≡◌, ◌||◌, ◌&&◌, false, not, MatchOption, ℕ, ◌+◌, ◌*◌, ◌/◌, ◌%◌, ◌^◌, ◌-◌, ◌≤◌, ◌<◌, length, get_or, eqb, leb, ltb};
 ghost use Rattle.bits.specs.Sets.{word_bits, word_bytes, byte_bits, set_words, set_bits, set_bytes, bit, empty_set, member, has, row_has, share, size_of, LeastFrom};
 ghost use Rattle.bits.specs.Words.{Lowest, LowestTaken, WordAt};
 
-const WORD_BITS: usize = 64;
+pub const WORD_BITS: usize = 64;
 
-const WORD_BYTES: usize = 8;
+pub const WORD_BYTES: usize = 8;
 
 // How many words a set has; specs/Sets.antt has the same number.
-const SET_WORDS: usize = 2;
+pub const SET_WORDS: usize = 2;
 
 // A set's members are below this.
 pub const SET_BITS: usize = WORD_BITS * SET_WORDS;
+
+// How many bytes of a row a set takes.
+pub const SET_BYTES: usize = WORD_BYTES * SET_WORDS;
 
 // A set of positions: the position q is bit q % 64 of word q / 64.
 #[derive(Clone, Copy, PartialEq, Eq, Debug)]
@@ -99,6 +102,20 @@ impl Set {
         ensures { (x : ℕ) → member result x ≡ (member self x && member other x) }
     {
         self.zip(other, |a, b| a & b)
+    }
+
+    // Each member one on; one at the last position is gone.
+    #[tactic(auto, using(crate::proofs::Members::moving))]
+    pub fn moved(self) -> Set
+        ensures { (x : ℕ) → member result x ≡ (leb 1 x && ltb x set_bits && member self (x - 1)) }
+    {
+        let mut words = [0; SET_WORDS];
+        let mut carry = 0;
+        for i in 0..SET_WORDS {
+            words[i] = self.words[i] << 1 | carry;
+            carry = self.words[i] >> (WORD_BITS - 1);
+        }
+        Set { words }
     }
 
     // Whether the two share a member.

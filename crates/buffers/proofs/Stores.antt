@@ -1,11 +1,12 @@
 -- Laws of bytes stored one after the other.
-use mathlib.Core.Path.{◌≡◌, ap, ap₂, sym, ◌∙◌}
-use mathlib.Core.List.{List, [], ◌∷◌, ◌++◌}
-use Prim.Native.Nat.{ℕ, suc, ◌+◌}
+use mathlib.Core.Path.{◌≡◌, refl, ap, ap₂, sym, ◌∙◌}
+use mathlib.Core.List.{List, [], ◌∷◌, ◌++◌, append_assoc}
+use Prim.Native.Nat.{ℕ, suc, ◌+◌, ◌≤◌}
 use native.Mathlib.Nat.{add-zero}
 use native.Mathlib.Omega.{arith}
-use lib.ListN.{length, replicate, set, length-append, replicate-append-replicate}
-use lib.Seq.{sets}
+use lib.ListN.{length, take, drop, replicate, set, length-append, replicate-append-replicate}
+use lib.Seq.{sets, sets-eq, drop-drop}
+use borrow.Rule.Slice.PartMut.{put_mid}
 use Rattle.buffers.specs.Wrote.{Wrote}
 
 pub sets-append : (xs : List ℕ) (n : ℕ) (vs ws : List ℕ) → sets xs n (vs ++ ws) ≡ sets (sets xs n vs) (n + length vs) ws
@@ -24,6 +25,16 @@ wrote_both {n} {xs} {m} {ys} {k} {zs} {vs} {ws} p q = record {
 pub wrote_as : {n : ℕ} {xs : List ℕ} {m : ℕ} {ys vs ws : List ℕ} → vs ≡ ws → Wrote n xs m ys vs → Wrote n xs m ys ws
 wrote_as e p = rw e at p
 
+-- one byte stored
+pub wrote_one : {n : ℕ} {xs ys : List ℕ} {b : ℕ} → ys ≡ set xs n b → Wrote n xs (n + 1) ys (b ∷ [])
+wrote_one e = record { count = refl; bytes = e }
+
 -- the same byte once more
 pub wrote_again : {n : ℕ} {xs : List ℕ} {m : ℕ} {ys : List ℕ} {k : ℕ} {zs : List ℕ} {b : ℕ} (i : ℕ) → Wrote n xs m ys (replicate i b) → Wrote m ys k zs (b ∷ []) → Wrote n xs k zs (replicate (i + 1) b)
 wrote_again {b = b} i p q = wrote_as (replicate-append-replicate i 1 b) (wrote_both p q)
+
+-- a part of a buffer, written whole
+pub stored : (a k : ℕ) (buffer xs : List ℕ) → length xs ≡ k → a + k ≤ length buffer → put_mid a k buffer xs ≡ sets buffer a xs
+stored a k buffer xs e h =
+    let within : a + length xs ≤ length buffer = omega arith in
+    rw (sets-eq xs buffer a within, e, drop-drop k a buffer) (sym (append_assoc (take a buffer) xs (drop (a + k) buffer)))

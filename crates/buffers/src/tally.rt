@@ -2,6 +2,8 @@
 ghost use Rattle.std.specs.Prelude.{◌≡◌, ◌+◌, ◌<◌, ◌≤◌, [], ◌∷◌, replicate, take};
 ghost use Rattle.rules.specs.Limits.{count_limit};
 
+use crate::{emit, emit_times};
+
 #[derive(Clone, Copy)]
 pub struct Tally<const N: usize> {
     pub bytes: [u8; N],
@@ -25,10 +27,9 @@ impl<const N: usize> Tally<N> {
         requires { self.old.count < count_limit }
         ensures { Added self.old self.new (b ∷ []) }
     {
-        if self.count < N {
-            self.bytes[self.count] = b;
-        }
-        self.count += 1;
+        let n = self.count;
+        emit(&mut self.bytes, n, b);
+        self.count = n + 1;
     }
 
     // The same byte so many times.
@@ -36,9 +37,7 @@ impl<const N: usize> Tally<N> {
         requires { self.old.count + times ≤ count_limit }
         ensures { Added self.old self.new (replicate times b) }
     {
-        for _ in 0..times {
-            self.push(b);
-        }
+        self.count = emit_times(&mut self.bytes, self.count, b, times);
     }
 
     // The bytes, where there was room for all.

@@ -5,6 +5,7 @@ use mathlib.Core.List.{List, [], ◌∷◌}
 use Prim.Native.Nat.{ℕ, ◌+◌, ◌*◌, ◌≤◌}
 use native.Mathlib.Omega.{arith}
 use lib.ListN.{length, replicate, length-replicate}
+use Rattle.std.specs.Prelude.{Some}
 use Rattle.rules.specs.Limits.{wiped}
 use Rattle.rules.specs.Numbers.{no, no_reading}
 use Rattle.rules.specs.Grounds.{first_of}
@@ -21,7 +22,7 @@ use Rattle.sheet.specs.Stands.{stands_for}
 use Rattle.sheet.proofs.Accepted.{standing}
 use Rattle.reader.specs.Refusals.{mapping_grounds}
 use Rattle.reader.specs.Outcome.{End, NextWent, found_next, no_more, unread}
-use Rattle.reader.proofs.Tests.{entries_fit}
+use Rattle.reader.proofs.Tests.{grounds_fit}
 use Rattle.claims.specs.Lines.{AfterNoMore}
 use Rattle.claims.proofs.Demand2.{went}
 
@@ -35,7 +36,7 @@ module _ (sheet name mapping work : List ℕ) (b : ℕ) (passed : first_of (mapp
   zeros = entries-wiped (length (b ∷ name)) mapping room
     where
       room : entry_size * length (b ∷ name) ≤ length mapping
-      room = rw (length-replicate {A = ℕ} (length mapping) 0) at (entries_fit sheet (b ∷ name) (wiped mapping) work passed)
+      room = rw (length-replicate {A = ℕ} (length mapping) 0) at (grounds_fit {sheet = sheet} {name = b ∷ name} {lent = Some (length (wiped mapping))} {work = work} passed).held
 
   none-given : (P : Pattern) → stands_for sheet ≡ some P → Reading P (b ∷ name) (given (b ∷ name) (wiped mapping)) → ⊥
   none-given P x r = zero_first P (standing sheet P x).numbered (replicate (length name) 0) (local (rw zeros at r).among)

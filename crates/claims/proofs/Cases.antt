@@ -5,8 +5,7 @@ use mathlib.Core.Option.{Option, none, some}
 use mathlib.Core.List.{List, [], ◌∷◌}
 use Prim.Native.Nat.{ℕ, ◌+◌}
 use lib.Dec.{T, eqb, eqb→eq, T_not}
-use Rattle.rules.specs.declared.Refusal.{Refusal}
-use Rattle.rules.specs.Fault.{text_fault_number, at, RefusedAs}
+use Rattle.rules.specs.Fault.{Refusal, text_fault_number, at, RefusedAs}
 use Rattle.rules.specs.Grounds.{first_of}
 use Rattle.language.specs.Tree.{Tree, size}
 use Rattle.language.specs.Reading.{Pattern, Reading}

@@ -8,8 +8,7 @@ use native.Mathlib.Omega.{arith}
 use lib.ListN.{length}
 use Rattle.rules.specs.Limits.{open_limit, wiped}
 use Rattle.rules.specs.Numbers.{done, text_long, sheet_short, repeat_fault, sheet_form, work_short}
-use Rattle.rules.specs.declared.Refusal.{Refusal}
-use Rattle.rules.specs.Fault.{text_fault_number, at, RefusedAs}
+use Rattle.rules.specs.Fault.{Refusal, text_fault_number, at, RefusedAs}
 use Rattle.rules.specs.Grounds.{first_of, Call, refused, answered}
 use Rattle.rules.proofs.Grounds.{some_eq, no_some}
 use Rattle.language.specs.Tree.{Tree}

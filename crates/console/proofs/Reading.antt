@@ -1,13 +1,9 @@
 -- Laws of shown readings.
-use Rattle.std.proofs.Common.{◌≡◌, ℕ, ◌+◌, ◌*◌, ◌<◌, ◌≤◌, List, [], ◌∷◌, ◌++◌, length, take, min, refl, sym, ◌∙◌, ap, arith, zero, suc, append-nil}
+use Rattle.std.proofs.Common.{◌≡◌, ℕ, ◌+◌, ◌<◌, List, [], ◌∷◌, ◌++◌, refl, ◌∙◌, ap, arith, zero, suc, append-nil}
 use Rattle.std.specs.Prelude.{decimal}
-use Rattle.std.proofs.Math.ListN.{get_or-eq_default}
 use Rattle.std.proofs.lemmas.Grind.{common_steps}
 use Rattle.std.proofs.lemmas.Bool.Decides.{nat_tests}
-use Rattle.std.proofs.lemmas.List.{length-take}
 use Rattle.std.proofs.lemmas.List.FromFn.{map-range_with_len_more}
-use Rattle.rules.specs.Limits.{name_limit}
-use Rattle.mapping.specs.Entries.{entry_size, entries}
 use Rattle.console.specs.Reading.{entry_or_none, first_entries, entry_shown, listed, shown}
 
 -- one number more, after a comma
@@ -25,10 +21,3 @@ listed_more (suc i) mapping =
 pub shown_some : (n : ℕ) (mapping : List ℕ) → 0 < n → shown (first_entries n mapping) ≡ listed (first_entries n mapping)
 shown_some zero mapping h = absurd (omega arith)
 shown_some (suc n) mapping h = refl
-
--- an entry that a mapping does not hold
-pub not_held : (i : ℕ) (mapping : List ℕ) → min name_limit (length mapping) ≤ i → 0 ≡ entry_or_none mapping i
-unfolding entries
-not_held i mapping h =
-    let size : ℕ = entry_size * name_limit in
-    sym (get_or-eq_default (take size mapping) 0 (omega (arith, length-take size mapping)))

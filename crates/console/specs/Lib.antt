@@ -1,2 +1,3 @@
+pub mod Lines
 pub mod Page
 pub mod Reading

@@ -4,6 +4,7 @@
 ghost use Rattle.std.specs.Prelude.{◌≡◌, ◌∷◌, ◌↔◌, All, IsTrue, decimal, drop, take, OnOk};
 ghost use Rattle.std.specs.Io.{ReadsAtMost};
 ghost use Rattle.std.specs.Io.KnownBytes.{Appends};
+ghost use Rattle.console.specs.Lines.{lines, DoneOn};
 ghost use Rattle.console.specs.Reading.{first_entries, shown};
 
 mod page;
@@ -56,17 +57,15 @@ pub fn read_full<R: Read>(input: &mut R, buffer: &mut [u8]) -> io::Result<usize>
 }
 
 // Calls f on each line of an input, without its line feed, until one fails.
-pub fn for_each_line<F: FnMut(&[u8]) -> io::Result<()>>(input: &[u8], mut f: F) -> io::Result<()>
+pub fn for_each_line<F: FnMut(&[u8]) -> io::Result<()>>(input: &[u8], f: F) -> io::Result<()>
     requires { F.IsAlwaysCallable f }
+    ensures { OnOk result (DoneOn F.FnMut f (lines input.now)) }
 {
     if input.is_empty() {
         return Ok(());
     }
     let lines = input.strip_suffix(b"\n").unwrap_or(input);
-    for line in lines.split(|b| *b == b'\n') {
-        f(line)?;
-    }
-    Ok(())
+    lines.split(|b| *b == b'\n').try_for_each(f)
 }
 
 // Without a page: written at once.

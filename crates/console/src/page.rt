@@ -126,7 +126,7 @@ impl<'a, W: Write, const N: usize> Page<'a, W, N> {
 }
 
 // The entry for a place of a name, or 0 where the mapping has none.
-#[tactic(auto, using(crate::proofs::Reading::not_held))]
+#[tactic(auto, using(mapping::proofs::Entries::not_held))]
 fn entry_at(mapping: &[u8], i: usize) -> u64
     ensures { result ≡ entry_or_none mapping.now i }
 {

@@ -10,8 +10,7 @@ use borrow.Author.Tests.{not-true}
 use Rattle.std.specs.Prelude.{Result, IfOk, MatchResult}
 use Rattle.rules.specs.declared.TextFault.{TextFault}
 use Rattle.rules.specs.declared.TextFault.TheVariants.{TextByte, RepeatFault}
-use Rattle.rules.specs.declared.Refusal.{Refusal}
-use Rattle.rules.specs.Fault.{at}
+use Rattle.rules.specs.Fault.{Refusal, at}
 use Rattle.rules.proofs.Truth.{and_true_left, and_true_right}
 use Rattle.lexer.specs.declared.Kind.{Kind}
 use Rattle.lexer.specs.declared.Kind.TheVariants.{Plain, Mark, Refused}

@@ -10,8 +10,7 @@ use lib.ListN.{length, get_or, drop}
 use borrow.Author.Tests.{le-ltb, ltb-false}
 use Rattle.rules.specs.Limits.{leaf_limit}
 use Rattle.rules.specs.declared.TextFault.TheVariants.{LeavesMany}
-use Rattle.rules.specs.declared.Refusal.{Refusal}
-use Rattle.rules.specs.Fault.{at}
+use Rattle.rules.specs.Fault.{Refusal, at}
 use Rattle.rules.proofs.Grounds.{no_some}
 use Rattle.lexer.specs.Bytes.{bar, asterisk, left_parenthesis, right_parenthesis}
 use Rattle.lexer.specs.Tokens.{Placed, placed, a_bar, a_star, an_open, a_close, starts}

@@ -3,8 +3,7 @@ use Rattle.std.specs.Prelude.{cond, List, [], ◌∷◌, ℕ, ◌+◌, ltb}
 use Rattle.std.proofs.Math.Option.{Option, none, some}
 use Rattle.rules.specs.Limits.{leaf_limit}
 use Rattle.rules.specs.declared.TextFault.TheVariants.{LeavesMany}
-use Rattle.rules.specs.declared.Refusal.{Refusal}
-use Rattle.rules.specs.Fault.{at}
+use Rattle.rules.specs.Fault.{Refusal, at}
 use Rattle.lexer.specs.Tokens.{Token, a_literal, a_bar, a_star, an_open, a_close, a_fault, Placed, placed}
 
 -- 11 and 19: the first fault among the tokens

@@ -3,8 +3,7 @@ use Rattle.std.specs.Prelude.{◌≡◌, Bool, true, false, ◌&&◌, not, List,
 use Rattle.std.proofs.Math.Option.{some}
 use Rattle.rules.specs.Limits.{most_copies}
 use Rattle.rules.specs.declared.TextFault.TheVariants.{LeavesMany, RepeatFault}
-use Rattle.rules.specs.declared.Refusal.{Refusal}
-use Rattle.rules.specs.Fault.{at}
+use Rattle.rules.specs.Fault.{Refusal, at}
 use Rattle.lexer.specs.declared.Kind.{Kind}
 use Rattle.lexer.specs.declared.Kind.TheVariants.{Plain, Mark, Refused}
 use Rattle.lexer.specs.declared.Figure.{Figure}

@@ -66,6 +66,7 @@ fn kind_of(b: u8) -> Kind
     }
 }
 
+// What reads a literal is put into the function that asks for it, so that no answer goes by memory.
 impl<'a> Text<'a> {
     // None if there are more bytes than the limit.
     pub fn new(bytes: &'a [u8]) -> Option<Text<'a>>
@@ -143,6 +144,7 @@ impl<'a> Text<'a> {
     }
 
     // The literal byte with the repeat whose brace stands at a place after it: a number, a comma, a number, a brace.
+    #[inline(always)]
     #[tactic(auto, using(crate::proofs::Repeats::repeat_second))]
     fn braced(self, byte: u8, at: usize) -> Option<Literal>
         requires { starts (drop at self.bytes.now) left_brace ≡ true }
@@ -164,6 +166,7 @@ impl<'a> Text<'a> {
     }
 
     // The literal byte with the repeat that may stand at a place after it.
+    #[inline(always)]
     fn repeated(self, byte: u8, at: usize) -> Result<Literal, Refusal>
         requires { at ≤ length self.bytes.now }
         ensures value { result ≡ literal_with byte at (repeat_at (drop at self.entry.bytes.now)) }
@@ -183,6 +186,7 @@ impl<'a> Text<'a> {
     }
 
     // The literal whose backslash stands at a place: the mark after it, with its repeat.
+    #[inline(always)]
     #[tactic(auto, using(crate::proofs::Units::escaped_end, crate::proofs::Units::escaped_mark, crate::proofs::Units::escaped_other))]
     fn escaped(self, at: usize) -> Result<Literal, Refusal>
         requires { starts (drop at self.bytes.now) backslash ≡ true }
@@ -195,6 +199,7 @@ impl<'a> Text<'a> {
     }
 
     // The literal at a place where a unit other than a parenthesis starts, with its repeat.
+    #[inline(always)]
     #[tactic(auto, using(crate::proofs::Units::literal_plain))]
     pub fn literal_at(self, at: usize) -> Result<Literal, Refusal>
         requires unit { unit_at (drop at self.bytes.now) ≡ true }

@@ -1,11 +1,11 @@
 // The listing program of document 01: an expression and a name on two lines, every reading of the name in order.
-// It has no promise of its own but to be safe and to end.
+// It stands on the calls that satchelram_c exports, and has no promise of its own but to be safe and to end.
 #![tactic(auto)]
 
-ghost use Rattle.std.specs.Prelude.{◌≤◌};
+ghost use Rattle.std.specs.Prelude.{◌≡◌, ◌≤◌};
+ghost use Rattle.satchelram.specs.Packing.{number_in, second_in};
 
 use console::{Failure, Page, front, status};
-use reader::NameFault;
 use std::io;
 use std::io::{Read, Write};
 use std::process::ExitCode;
@@ -118,6 +118,41 @@ impl Lines {
     }
 }
 
+// What a call answered, taken apart: a number, and a second one.
+#[derive(Clone, Copy)]
+struct Answer {
+    number: u64,
+    second: u64,
+}
+
+impl Answer {
+    fn of(packed: u64) -> Self
+        ensures { (result.number ≡ number_in packed) × (result.second ≡ second_in packed) }
+    {
+        Answer {
+            number: packed % satchelram::NUMBER_ROOM,
+            second: packed / satchelram::NUMBER_ROOM % satchelram::SECOND_ROOM,
+        }
+    }
+
+    // Of the sheet call: the sheet's length, or the refusal's number and place.
+    fn size(self) -> Result<usize, Answer> {
+        match self.number {
+            rules::DONE => Ok(self.second as usize),
+            _ => Err(self),
+        }
+    }
+
+    // Of a name call: whether there is a reading, or the refusal's number.
+    fn found(self) -> Result<bool, u64> {
+        match self.number {
+            rules::DONE => Ok(true),
+            rules::NO => Ok(false),
+            number => Err(number),
+        }
+    }
+}
+
 // The readings of a name: a sheet, the name, and the buffers that the reader works in.
 #[derive(Drop)]
 struct Readings<'a> {
@@ -137,12 +172,16 @@ impl<'a> Readings<'a> {
         }
     }
 
-    fn first(&mut self) -> Result<bool, NameFault> {
-        reader::first(self.sheet, self.name, &mut self.mapping, &mut self.work)
+    fn first(&mut self) -> Result<bool, u64> {
+        let (mapping, work) = (&mut self.mapping, &mut self.work);
+        let answer = satchelram::satchelram_first(self.sheet, self.name, mapping, work);
+        Answer::of(answer).found()
     }
 
-    fn next(&mut self) -> Result<bool, NameFault> {
-        reader::next(self.sheet, self.name, &mut self.mapping, &mut self.work)
+    fn next(&mut self) -> Result<bool, u64> {
+        let (mapping, work) = (&mut self.mapping, &mut self.work);
+        let answer = satchelram::satchelram_next(self.sheet, self.name, mapping, work);
+        Answer::of(answer).found()
     }
 
     // The reading that the mapping holds, on a line of its own.
@@ -173,8 +212,8 @@ impl<'a> Readings<'a> {
                 self.list_on(page)
             }
             Ok(false) => put_end(page, 0),
-            refused => {
-                put_refused(page, reader::number(refused))?;
+            Err(number) => {
+                put_refused(page, number)?;
                 page.put(b"\n")
             }
         }
@@ -202,12 +241,12 @@ fn put_refused<W: Write>(page: &mut Page<W, PAGE>, number: u64) -> io::Result<()
 
 fn list<W: Write>(page: &mut Page<W, PAGE>, text: &[u8], name: &[u8]) -> io::Result<()> {
     let mut sheet = [0u8; sheet::LONGEST];
-    match sheet_call::make(text, &mut sheet) {
+    match Answer::of(satchelram::satchelram_sheet(text, &mut sheet)).size() {
         Ok(size) => Readings::new(front(&sheet, size), name).list(page),
         Err(refusal) => {
-            put_refused(page, refusal.fault.number())?;
+            put_refused(page, refusal.number)?;
             page.put(b" at ")?;
-            page.put_number(refusal.place as u64)?;
+            page.put_number(refusal.second)?;
             page.put(b"\n")
         }
     }

@@ -1,9 +1,12 @@
 -- Laws of the entries of a mapping.
-use mathlib.Core.Path.{◌≡◌, refl, ap, ◌∙◌}
+use mathlib.Core.Path.{◌≡◌, refl, sym, ap, ◌∙◌}
 use mathlib.Core.List.{List, ◌∷◌}
 use Prim.Native.Nat.{ℕ, zero, suc, ◌*◌, ◌-◌, ◌<◌, ◌≤◌}
 use native.Mathlib.Omega.{arith}
 use lib.ListN.{length, get_or, take, set, replicate}
+use Rattle.std.specs.Prelude.{min}
+use Rattle.std.proofs.Math.ListN.{get_or-eq_default}
+use Rattle.std.proofs.lemmas.List.{length-take}
 use lib.Seq.{get_or-take, length-take-le, take_at, take-set-lt, drop-set-lt}
 use Rattle.rules.specs.Limits.{wiped, filled}
 use Rattle.mapping.specs.Entries.{entry_size, stored, entries, beyond, Put}
@@ -16,6 +19,11 @@ module _ (n : ℕ) (mapping : List ℕ) where
   pub entry_is : (i : ℕ) → i < n → get_or mapping (entry_size * i) 0 ≡ get_or (entries n mapping) i 0
   unfolding entries
   entry_is i h = let e : entry_size * i ≡ i = omega arith in rw e (rw (get_or-take (entry_size * n) mapping i 0 (omega arith)) refl)
+
+  -- an entry that a mapping does not hold
+  pub not_held : (i : ℕ) → min (entry_size * n) (length mapping) ≤ entry_size * i → 0 ≡ get_or (entries n mapping) i 0
+  unfolding entries
+  not_held i h = sym (get_or-eq_default (take (entry_size * n) mapping) 0 (omega (arith, length-take (entry_size * n) mapping)))
 
 -- a reading that fills a mapping is what its entries are
 pub entries-filled : (n : ℕ) (mapping reading : List ℕ) → length reading ≡ n → entries n (filled mapping (stored reading)) ≡ reading

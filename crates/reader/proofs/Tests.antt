@@ -2,19 +2,21 @@
 use mathlib.Core.Path.{◌≡◌, sym, ◌∙◌}
 use mathlib.Core.Option.{Option, none, some}
 use mathlib.Core.List.{List, ◌++◌}
-use Rattle.std.specs.Prelude.{Result}
+use Rattle.std.specs.Prelude.{Result, Option as Lent, None, Some}
 use Rattle.std.specs.Result.{IsErrAnd}
 use Rattle.std.proofs.lemmas.Result.{err_from_is_err_and}
-use Rattle.std.proofs.lemmas.Grind.{common_steps}
-use native.Mathlib.Omega.{arith}
 use Prim.Native.Nat.{ℕ, ◌*◌, ◌≤◌}
+use lib.Dec.{ltb}
 use lib.ListN.{length}
-use Rattle.rules.specs.Grounds.{first_of}
-use Rattle.rules.proofs.Grounds.{first_part, later_part}
+use borrow.Author.Tests.{ltb-false}
+use Rattle.rules.specs.Limits.{name_limit, area_for}
+use Rattle.rules.specs.Numbers.{name_long, mapping_short, work_short}
+use Rattle.rules.specs.Grounds.{because, first_of}
+use Rattle.rules.proofs.Grounds.{Passed, passed, not_because, first_part, later_part, front_part}
 use Rattle.sheet.specs.Answer.{fault_number}
 use Rattle.sheet.specs.Refusals.{sheet_grounds, sheet_refusal}
 use Rattle.sheet.specs.declared.SheetFault.{SheetFault}
-use Rattle.reader.specs.Refusals.{mapping_grounds}
+use Rattle.reader.specs.Refusals.{name_grounds, call_grounds}
 use Rattle.mapping.specs.Entries.{entry_size}
 use Rattle.reader.specs.declared.NameFault.{NameFault}
 use Rattle.reader.specs.declared.NameFault.TheVariants.{Sheet}
@@ -35,6 +37,31 @@ module _ (sheet : List ℕ) (gs : List (Option ℕ)) where
   pub sheet_passed : {r : Option ℕ} → none ≡ sheet_refusal sheet → r ≡ first_of gs → r ≡ first_of (sheet_grounds sheet ++ gs)
   sheet_passed e f = f ∙ sym (later_part (sheet_grounds sheet) gs (sym e))
 
--- where a call that is lent a mapping is not refused, the entries fit
-pub entries_fit : (sheet name mapping work : List ℕ) → first_of (mapping_grounds sheet name mapping work) ≡ none → entry_size * length name ≤ length mapping
-entries_fit sheet name mapping work e = grind (arith, common_steps)
+-- what is lent for a mapping, if anything is, has room for n entries
+abbrev pub Held : Lent ℕ → ℕ → Type 0
+Held None n = Unit {0}
+Held (Some size) n = entry_size * n ≤ size
+
+-- what holds of a call that passed
+pub record Fit (sheet name : List ℕ) (lent : Lent ℕ) (work : List ℕ) : Type 0 where
+  pub passed : first_of (call_grounds sheet name lent work) ≡ none
+  pub accepted : sheet_refusal sheet ≡ none
+  pub short : length name ≤ name_limit
+  pub held : Held lent (length name)
+  pub room : area_for name ≤ length work
+
+-- a ground `a < b` that does not hold
+not_less : (a b k : ℕ) → because (ltb a b) k ≡ none → b ≤ a
+not_less a b k e = ltb-false a b (not_because (ltb a b) k e)
+
+name_passed : (name : List ℕ) (lent : Lent ℕ) (work : List ℕ) → Passed (name_grounds name lent work)
+    → (length name ≤ name_limit) × Held lent (length name) × (area_for name ≤ length work)
+name_passed name None work (p, (r, u)) = (not_less name_limit (length name) name_long p, tt, not_less (length work) (area_for name) work_short r)
+name_passed name (Some size) work (p, (q, (r, u))) =
+    (not_less name_limit (length name) name_long p, not_less size (entry_size * length name) mapping_short q, not_less (length work) (area_for name) work_short r)
+
+pub grounds_fit : {sheet name : List ℕ} {lent : Lent ℕ} {work : List ℕ} → first_of (call_grounds sheet name lent work) ≡ none → Fit sheet name lent work
+grounds_fit {sheet} {name} {lent} {work} e =
+    let a = front_part (sheet_grounds sheet) (name_grounds name lent work) e in
+    let (short, held, room) = name_passed name lent work (passed (name_grounds name lent work) (sym (later_part (sheet_grounds sheet) (name_grounds name lent work) a) ∙ e)) in
+    record { passed = e; accepted = a; short = short; held = held; room = room }

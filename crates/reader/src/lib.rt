@@ -161,12 +161,13 @@ impl<'a> Question<'a> {
         ensures value { (P : Pattern) → stands_for self.entry.sheet.bytes.now ≡ some P → result ≡ accepts P self.entry.name.now }
         ensures rest_unchanged { row_at work.new (length self.entry.name.now) ≡ row_at work.old (length self.entry.name.now) }
     {
-        let tables = &Tables::of(self.sheet);
-        rows::fill(work, self.name, tables);
+        let mut tables = Tables::new();
+        tables.read(self.sheet);
+        rows::fill(work, self.name, &tables);
         let rows = Rows {
             name: self.name,
             work,
-            tables,
+            tables: &tables,
         };
         rows.begins()
     }
@@ -177,12 +178,13 @@ impl<'a> Question<'a> {
         ensures first_made { (P : Pattern) → stands_for self.entry.sheet.bytes.now ≡ some P → FirstMade P self.entry.name.now mapping.new result }
         ensures rest_unchanged { row_at work.new (length self.entry.name.now) ≡ row_at work.old (length self.entry.name.now) }
     {
-        let tables = &Tables::of(self.sheet);
-        rows::fill(work, self.name, tables);
+        let mut tables = Tables::new();
+        tables.read(self.sheet);
+        rows::fill(work, self.name, &tables);
         let rows = Rows {
             name: self.name,
             work,
-            tables,
+            tables: &tables,
         };
         if rows.begins() {
             choices::choose(&rows, mapping, Place(0), Position(0));
@@ -197,15 +199,16 @@ impl<'a> Question<'a> {
         ensures next_made { (P : Pattern) → stands_for self.entry.sheet.bytes.now ≡ some P → NextMade P self.entry.name.now mapping.old mapping.new result }
         ensures rest_unchanged { row_at work.new (length self.entry.name.now) ≡ row_at work.old (length self.entry.name.now) }
     {
-        let tables = &Tables::of(self.sheet);
-        if !choices::is_reading(self.name, mapping, tables) {
+        let mut tables = Tables::new();
+        tables.read(self.sheet);
+        if !choices::is_reading(self.name, mapping, &tables) {
             return Err(NameFault::NoReading);
         }
-        rows::fill(work, self.name, tables);
+        rows::fill(work, self.name, &tables);
         let rows = Rows {
             name: self.name,
             work,
-            tables,
+            tables: &tables,
         };
         let moved = choices::advance(&rows, mapping);
         Ok(moved)
@@ -217,7 +220,9 @@ impl<'a> Question<'a> {
         ensures { (P : Pattern) → stands_for self.entry.sheet.bytes.now ≡ some P
             → result ≡ is_reading P self.entry.name.now (given self.entry.name.now mapping.now) }
     {
-        choices::is_reading(self.name, mapping, &Tables::of(self.sheet))
+        let mut tables = Tables::new();
+        tables.read(self.sheet);
+        choices::is_reading(self.name, mapping, &tables)
     }
 
     // After a search: what was found stays in the mapping, with zeros after it, and the rows are wiped.
@@ -265,9 +270,9 @@ pub fn next(
 ) -> Result<bool, NameFault>
     ensures { NextCall sheet.now name.now mapping.old work.old (end_of result mapping.new work.new) }
 {
-    let question = Question::to_search(sheet, name, mapping, work)?;
-    let found = question.next_reading(mapping, work);
-    question.keep(found, mapping, work);
+    let asked = Question::to_search(sheet, name, mapping, work)?;
+    let found = asked.next_reading(mapping, work);
+    asked.keep(found, mapping, work);
     found
 }
 

@@ -8,7 +8,7 @@
 // they are looked at; what is not as document 01 says is printed as `untidy`.
 #![tactic(auto)]
 
-ghost use Rattle.std.specs.Prelude.{◌≤◌, ◌<◌};
+ghost use Rattle.std.specs.Prelude.{◌≡◌, ◌/◌, ◌≤◌, ◌<◌, length, min};
 
 use console::{
     Failure, all_are, for_each_line, front, read_full, say, say_field, say_reading, status,
@@ -81,25 +81,54 @@ impl<const N: usize> Buffer<N> {
     }
 }
 
-// A sheet, a name, and the buffers that are lent to a call.
+// The buffers that all cases share, each in its turn.
 #[derive(Drop)]
-struct Question<'a> {
-    sheet: &'a [u8],
-    name: &'a [u8],
+struct Buffers {
+    sheet: [u8; ROOM],
+    name: [u8; ROOM],
     mapping: Buffer<ROOM>,
     work: Buffer<LARGE_ROOM>,
 }
 
-impl<'a> Question<'a> {
-    fn new(sheet: &'a [u8], name: &'a [u8]) -> Self {
-        Question {
-            sheet,
-            name,
+impl Buffers {
+    fn new() -> Self {
+        Buffers {
+            sheet: [0; ROOM],
+            name: [0; ROOM],
             mapping: Buffer::new(),
             work: Buffer::new(),
         }
     }
 
+    // The question of a line, with all of both buffers lent.
+    fn question(&mut self, line: &[u8]) -> Question<'_> {
+        let Buffers {
+            sheet,
+            name,
+            mapping,
+            work,
+        } = self;
+        mapping.lend(ROOM);
+        work.lend(LARGE_ROOM);
+        Question {
+            sheet: unhex(field(line, 2), sheet),
+            name: unhex(field(line, 3), name),
+            mapping,
+            work,
+        }
+    }
+}
+
+// A sheet, a name, and the buffers that are lent to a call.
+#[derive(Drop)]
+struct Question<'a> {
+    sheet: &'a [u8],
+    name: &'a [u8],
+    mapping: &'a mut Buffer<ROOM>,
+    work: &'a mut Buffer<LARGE_ROOM>,
+}
+
+impl<'a> Question<'a> {
     // A call's answer, over a work area full of rubbish.
     fn ask(&mut self, call: Call) -> Answer {
         let (sheet, name) = (self.sheet, self.name);
@@ -231,7 +260,9 @@ fn digit(b: u8) -> u8
 }
 
 // The bytes that hexadecimal digits stand for, as many as there is room for.
-fn unhex<'a>(text: &[u8], room: &'a mut [u8]) -> &'a [u8] {
+fn unhex<'a>(text: &[u8], room: &'a mut [u8]) -> &'a [u8]
+    ensures { length result.now ≡ min (length text.now / 2) (length room.old) }
+{
     for (byte, pair) in room.iter_mut().zip(text.chunks_exact(2)) {
         *byte = digit(pair[0]) * 16 + digit(pair[1]);
     }
@@ -246,14 +277,9 @@ fn value(text: &[u8]) -> usize {
 }
 
 // One case.
-fn case<W: Write>(out: &mut W, line: &[u8]) -> io::Result<()> {
+fn case<W: Write>(out: &mut W, line: &[u8], buffers: &mut Buffers) -> io::Result<()> {
     say(out, field(line, 1))?;
-    let mut sheet_room = [0u8; ROOM];
-    let mut name_room = [0u8; ROOM];
-    let mut question = Question::new(
-        unhex(field(line, 2), &mut sheet_room),
-        unhex(field(line, 3), &mut name_room),
-    );
+    let mut question = buffers.question(line);
     match line.first() {
         None => {}
         Some(b'L') => question.list(out)?,
@@ -270,8 +296,10 @@ fn case<W: Write>(out: &mut W, line: &[u8]) -> io::Result<()> {
     say(out, b"\n")
 }
 
+// All cases, over the same buffers.
 fn run_all<W: Write>(out: &mut W, input: &[u8]) -> io::Result<()> {
-    for_each_line(input, |line| case(out, line))
+    let mut buffers = Buffers::new();
+    for_each_line(input, |line| case(out, line, &mut buffers))
 }
 
 fn read_and_run<R: Read, W: Write>(input: &mut R, out: &mut W) -> Result<(), Failure> {

@@ -4,7 +4,7 @@ use Rattle.std.proofs.Math.Option.{Option, some}
 use Rattle.rules.specs.Numbers.{text_long, text_byte, operand_missing, close_unopened, open_unclosed, open_deep, leaves_many, nodes_many, sheet_short, repeat_fault}
 use Rattle.rules.specs.declared.TextFault.{TextFault}
 use Rattle.rules.specs.declared.TextFault.TheVariants.{TextLong, TextByte, OperandMissing, CloseUnopened, OpenUnclosed, OpenDeep, LeavesMany, NodesMany, SheetShort, RepeatFault}
-use Rattle.rules.specs.declared.Refusal.{Refusal}
+use Rattle.rules.specs.declared.RefusalBy.{RefusalBy}
 
 -- the number of a fault
 abbrev pub text_fault_number : TextFault → ℕ
@@ -19,8 +19,12 @@ text_fault_number NodesMany = nodes_many
 text_fault_number SheetShort = sheet_short
 text_fault_number RepeatFault = repeat_fault
 
--- refused at a place for a fault
-abbrev pub at : ℕ → TextFault → Refusal
+-- the refusal of a text
+abbrev pub Refusal : Type 0
+Refusal = RefusalBy TextFault
+
+-- refused at a place for a fault, whatever says it
+abbrev pub at : {F : Type 0} → ℕ → F → RefusalBy F
 at i f = record { fault = f; place = i }
 
 -- the refusal that has this number and this place

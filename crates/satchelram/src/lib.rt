@@ -11,8 +11,10 @@ ghost use Rattle.satchelram.specs.Version.{version};
 
 use reader::NameFault;
 
-// Room for the number, below the second (docs/PACKING.md).
+// Room for the number, and for the second after it (docs/PACKING.md).
 pub const NUMBER_ROOM: u64 = 256;
+
+pub const SECOND_ROOM: u64 = 16777216;
 
 fn pack(number: u64, second: u64) -> u64
     requires { (number < number_room) × (second < second_room) }

@@ -2,13 +2,12 @@
 use mathlib.Core.Path.{◌≡◌, refl, ap, sym, ◌∙◌}
 use mathlib.Core.Bool.{Bool, false, not, ◌||◌}
 use mathlib.Core.Option.{none}
-use mathlib.Core.List.{List, [], ◌∷◌, ◌++◌, append_assoc}
+use mathlib.Core.List.{List, [], ◌∷◌, ◌++◌}
 use Prim.Native.Nat.{ℕ, zero, suc, ◌+◌, ◌-◌, ◌<◌, ◌≤◌}
 use native.Mathlib.Omega.{arith}
 use lib.Dec.{eqb, ltb}
-use borrow.Rule.Slice.PartMut.{put_mid}
-use lib.ListN.{length, get_or, take, drop, set, length-append, length-drop, length-set}
-use lib.Seq.{sets, sets-eq, length-sets, take_at, length-take-le, drop-drop, get_or-take, get_or-drop, take-append_seam, drop-append-add, get_or-append_seam}
+use lib.ListN.{length, get_or, take, drop, set, length-append, length-drop}
+use lib.Seq.{sets, sets-eq, length-sets, take_at, length-take-le, get_or-take, get_or-drop, take-append_seam, drop-append-add, get_or-append_seam}
 use borrow.Author.Tests.{ltb-false, leb-false, eqb-true, not-false, le-ltb, lt-leb, eq-eqb}
 use Rattle.rules.specs.Limits.{byte_values, leaf_limit, node_limit, lowest_byte, highest_byte, outside, filled}
 use Rattle.rules.specs.Grounds.{first_of}
@@ -112,12 +111,6 @@ module _ (xs ns : List ℕ) where
       is_right (laid_out xs ns) long few right
 
 -- WRITING
--- a part of a buffer, written whole
-stored : (a k : ℕ) (buffer xs : List ℕ) → length xs ≡ k → a + k ≤ length buffer → put_mid a k buffer xs ≡ sets buffer a xs
-stored a k buffer xs e h =
-    let within : a + length xs ≤ length buffer = omega arith in
-    rw (sets-eq xs buffer a within, e, drop-drop k a buffer) (sym (append_assoc (take a buffer) xs (drop (a + k) buffer)))
-
 -- bytes stored from the start stand in front
 sets-front : (xs vs : List ℕ) → length vs ≤ length xs → sets xs 0 vs ≡ vs ++ drop (length vs) xs
 sets-front xs vs h =
@@ -129,20 +122,13 @@ module _ (buffer xs ns : List ℕ) (h : length_for (length xs) (length ns) ≤ l
   abbrev counted : List ℕ
   counted = set (set buffer 0 form_one) 1 (length xs)
 
-  abbrev lettered : List ℕ
-  lettered = set (put_mid 2 (2 + length xs - 2) counted xs) (2 + length xs) (length ns)
-
   abbrev whole : List ℕ
-  whole = put_mid (2 + length xs + 1) (length_for (length xs) (length ns) - (2 + length xs + 1)) lettered ns
+  whole = sets (set (sets counted 2 xs) (2 + length xs) (length ns)) (2 + length xs + 1) ns
 
   laid : whole ≡ sets buffer 0 (laid_out xs ns)
   laid =
-      let one : length counted ≡ length buffer = simp length-set in
-      let some = stored 2 (2 + length xs - 2) counted xs (omega arith) (omega arith) in
-      let two : length lettered ≡ length buffer = simp (length-set, some, length-sets) in
-      let more = stored (2 + length xs + 1) (length_for (length xs) (length ns) - (2 + length xs + 1)) lettered ns (omega arith) (omega arith) in
       let next : 2 + length xs + 1 ≡ suc (2 + length xs) = omega arith in
-      more ∙ rw (some, next) (sym (sets-append counted 2 xs (length ns ∷ ns)))
+      rw next (sym (sets-append counted 2 xs (length ns ∷ ns)))
 
   pub laid_filled : {after : List ℕ} → after ≡ filled whole (take (length_for (length xs) (length ns)) whole) → after ≡ filled buffer (laid_out xs ns)
   laid_filled e =

@@ -1,18 +1,17 @@
 -- The fast pass over node bytes: what its sum says as long as some subtree waits after every node.
 use mathlib.Core.Path.{◌≡◌, refl, sym, ◌∙◌}
-use mathlib.Core.Bool.{Bool, true, false, ◌&&◌, ◌||◌}
+use mathlib.Core.Bool.{true, false, ◌||◌}
 use mathlib.Core.Option.{none}
 use mathlib.Core.List.{List, map}
 use Prim.Native.Nat.{ℕ, suc, ◌+◌, ◌-◌, ◌*◌, ◌<◌, ◌≤◌}
 use native.Mathlib.Numerals.{add-one}
 use native.Mathlib.Omega.{arith}
-use lib.Dec.{eqb, leb, ltb}
+use lib.Dec.{eqb, ltb}
 use lib.ListN.{length, get_or, drop, length-map, drop_of_length-le}
 use lib.Seq.{drop-cons}
-use borrow.Author.Tests.{leb-true, le-ltb, eqb-true, eq-eqb}
+use borrow.Author.Tests.{le-ltb, eqb-true, eq-eqb}
 use Rattle.rules.specs.Limits.{node_limit}
 use Rattle.rules.specs.Grounds.{first_of}
-use Rattle.rules.proofs.Truth.{and_true_left, and_true_right}
 use Rattle.sheet.specs.Nodes.{Node, a_leaf, an_empty, a_cat, a_union, a_star, no_node, node_of, arity, after_node, is_leaf, too_few, at_end, leaf_nodes}
 use Rattle.sheet.specs.Refusals.{node_grounds}
 use Rattle.sheet.specs.Weights.{one_waiting, none_waiting, weight_of}
@@ -77,32 +76,29 @@ module _ {xs : List ℕ} {i sum : ℕ} (c : Weighed xs i sum) where
       let never = never_too_many (map node_of xs) (simp length-map m) (sym few) (sym left ∙ one) in
       rw (← few, ← left, eq-eqb c.waiting 1 one, never, all, eq-eqb L L refl) refl
 
--- the fast pass before node i: no sum wraps, and where all is fine so far, it says what it counts
-pub record Passing (xs : List ℕ) (i sum : ℕ) (fine : Bool) : Type 0 where
+-- the fast pass before node i: no sum wraps, and where the least sum so far is high enough, the sum says what it counts
+pub record Passing (xs : List ℕ) (i sum least : ℕ) : Type 0 where
   pub inside : i ≤ length xs
   pub low : none_waiting ≤ sum + one_waiting * i
   pub high : sum ≤ none_waiting + (one_waiting + 1) * i
-  pub weighed : fine ≡ true → Weighed xs i sum
+  pub weighed : none_waiting + one_waiting ≤ least → Weighed xs i sum
 
-pub passing-none : (xs : List ℕ) → Passing xs 0 none_waiting true
+pub passing-none : (xs : List ℕ) → Passing xs 0 none_waiting (none_waiting + one_waiting)
 passing-none xs = record { inside = omega arith; low = omega arith; high = omega arith; weighed = λ e. weighed_none xs }
 
-module _ {xs : List ℕ} {i sum : ℕ} {fine : Bool} (c : Passing xs i sum fine) where
-  pub passing_on : {w : ℕ} → i < length xs → length xs ≤ node_limit → w ≡ weight_of (node_of (get_or xs i 0)) → w ≤ 2 * one_waiting + 1
-      → Passing xs (i + 1) (sum + w - one_waiting) (fine && leb (none_waiting + one_waiting) (sum + w - one_waiting))
-  passing_on {w} h b e m =
+module _ {xs : List ℕ} {i sum least : ℕ} (c : Passing xs i sum least) where
+  pub passing_on : {w k : ℕ} → i < length xs → length xs ≤ node_limit → w ≡ weight_of (node_of (get_or xs i 0)) → w ≤ 2 * one_waiting + 1
+      → k ≤ least → k ≤ sum + w - one_waiting → Passing xs (i + 1) (sum + w - one_waiting) k
+  passing_on {w} h b e m low high =
       let next : sum + w - one_waiting + one_waiting ≡ sum + weight_of (node_of (get_or xs i 0)) = omega (arith, c.low) in
       record {
         inside = omega arith;
         low = omega (arith, c.low);
         high = omega (arith, c.high);
-        weighed = λ f.
-            let so = and_true_left fine (leb (none_waiting + one_waiting) (sum + w - one_waiting)) f in
-            let over = leb-true (none_waiting + one_waiting) (sum + w - one_waiting) (and_true_right fine (leb (none_waiting + one_waiting) (sum + w - one_waiting)) f) in
-            weighed_on (c.weighed so) (sum + w - one_waiting) h (omega arith) next over;
+        weighed = λ f. weighed_on (c.weighed (omega arith)) (sum + w - one_waiting) h (omega arith) next (omega arith);
       }
 
-  pub passing-right : (L : ℕ) → length xs ≤ i → length xs ≤ node_limit → L ≤ node_limit → fine ≡ true
+  pub passing-right : (L : ℕ) → length xs ≤ i → length xs ≤ node_limit → L ≤ node_limit → none_waiting + one_waiting ≤ least
       → eqb sum (none_waiting + one_waiting + L) ≡ true → first_of (node_grounds L (map node_of xs)) ≡ none
   passing-right L z m k f e = weighed_right (c.weighed f) L z (omega (arith, c.inside)) m k (eqb-true sum (none_waiting + one_waiting + L) e)
 

@@ -6,7 +6,7 @@ ghost use Rattle.sheet.specs.Form1.{literal_count, node_part, literal as Form1·
 ghost use Rattle.sheet.specs.Answer.{refusal_of};
 
 use crate::{Node, SheetFault};
-use buffers::wipe_from;
+use buffers::{copy_in, wipe_from};
 
 pub const FORM: u8 = 1;
 
@@ -106,8 +106,8 @@ pub fn write(sheet: &mut [u8], literals: &[u8], nodes: &[u8])
     let end = length_for(literals.len(), nodes.len());
     sheet[0] = FORM;
     sheet[1] = literals.len() as u8;
-    sheet[LITERALS..counted].copy_from_slice(literals);
+    copy_in(sheet, LITERALS, literals, literals.len());
     sheet[counted] = nodes.len() as u8;
-    sheet[counted + 1..end].copy_from_slice(nodes);
+    copy_in(sheet, counted + 1, nodes, nodes.len());
     wipe_from(sheet, end);
 }

@@ -67,16 +67,13 @@ fn test_in_order(nodes: &[u8], promised: usize) -> Result<(), SheetFault>
     Ok(())
 }
 
-// What a node adds to the sum of the fast pass.
+// What a node adds to the sum of the fast pass, by its byte: a look into a table takes fewer instructions than a test of each kind.
+const WEIGHTS: [u64; 5] = [2 * ONE_WAITING + 1, 2 * ONE_WAITING, 0, 0, ONE_WAITING];
+
 fn weight(node: Node) -> u64
     ensures { Gives weight_of node result × (result ≤ 2 * one_waiting + 1) }
 {
-    match node {
-        Node::Leaf => 2 * ONE_WAITING + 1,
-        Node::Empty => 2 * ONE_WAITING,
-        Node::Cat | Node::Union => 0,
-        Node::Star => ONE_WAITING,
-    }
+    WEIGHTS[usize::from(node.byte())]
 }
 
 // 24 to 27 in one fast pass without an order: true only if none of them holds. 24 holds exactly if after some node none waits.
@@ -86,12 +83,12 @@ fn counts_right(nodes: &[u8], promised: usize) -> bool
     ensures { result ≡ true → first_of (node_grounds promised (map node_of nodes.now)) ≡ none }
 {
     let mut sum = NONE_WAITING;
-    let mut fine = true;
+    let mut least = NONE_WAITING + ONE_WAITING;
     for byte in nodes {
         sum = sum + weight(Node::from(*byte)) - ONE_WAITING;
-        fine = fine & (NONE_WAITING + ONE_WAITING <= sum);
+        least = least.min(sum);
     }
-    fine && sum == NONE_WAITING + ONE_WAITING + promised as u64
+    NONE_WAITING + ONE_WAITING <= least && sum == NONE_WAITING + ONE_WAITING + promised as u64
 }
 
 // 24 to 27: in their order only where the fast pass did not find all fine. It has no sum for more nodes than a sheet may have.

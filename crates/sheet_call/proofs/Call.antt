@@ -9,8 +9,7 @@ use lib.Seq.{sets, sets-eq, take_at}
 use borrow.Author.Tests.{lt-ltb, le-ltb}
 use Rattle.rules.specs.Limits.{text_limit, open_limit, leaf_limit, node_limit, wiped, filled}
 use Rattle.rules.specs.declared.TextFault.TheVariants.{TextLong, LeavesMany, NodesMany, SheetShort}
-use Rattle.rules.specs.declared.Refusal.{Refusal}
-use Rattle.rules.specs.Fault.{at}
+use Rattle.rules.specs.Fault.{Refusal, at}
 use Rattle.rules.specs.Grounds.{refused, answered}
 use Rattle.buffers.specs.Wrote.{Wrote}
 use Rattle.language.specs.Tree.{Tree}

@@ -2,8 +2,7 @@
 use Rattle.std.specs.Prelude.{List, ℕ, Result, Ok, Err}
 use Rattle.rules.specs.Limits.{wiped}
 use Rattle.rules.specs.Numbers.{done}
-use Rattle.rules.specs.Fault.{text_fault_number}
-use Rattle.rules.specs.declared.Refusal.{Refusal}
+use Rattle.rules.specs.Fault.{Refusal, text_fault_number}
 use Rattle.text.specs.Outcome.{SheetEnd, SheetCall}
 
 abbrev pub sheet_end : Result ℕ Refusal → List ℕ → SheetEnd

@@ -9,6 +9,7 @@ ghost use Rattle.text.specs.Refusals.{text_refusal};
 ghost use Rattle.text.specs.Outcome.{SheetCall};
 ghost use Rattle.sheet_call.specs.Answer.{sheet_end, SheetTried};
 
+use buffers::wipe_all;
 use lexer::Text;
 use rules::{LEAF_LIMIT, NODE_LIMIT, Refusal, TEXT_LIMIT, TextFault, refused_at};
 use sheet::{length_for, write};
@@ -62,7 +63,7 @@ pub fn make(text: &[u8], sheet: &mut [u8]) -> Result<usize, Refusal>
 {
     let made = try_make(text, sheet);
     if made.is_err() {
-        sheet.fill(0);
+        wipe_all(sheet);
     }
     made
 }

@@ -12,8 +12,7 @@ use Rattle.rules.specs.Limits.{text_limit, open_limit, leaf_limit, node_limit}
 use Rattle.rules.specs.Numbers.{text_long, nodes_many, repeat_fault, sheet_short}
 use Rattle.rules.specs.declared.TextFault.{TextFault}
 use Rattle.rules.specs.declared.TextFault.TheVariants.{TextLong, OperandMissing, CloseUnopened, OpenUnclosed, OpenDeep, LeavesMany, NodesMany}
-use Rattle.rules.specs.declared.Refusal.{Refusal}
-use Rattle.rules.specs.Fault.{text_fault_number, at}
+use Rattle.rules.specs.Fault.{Refusal, text_fault_number, at}
 use Rattle.rules.proofs.Grounds.{Gives, AllGive, because_gives, first_gives}
 use Rattle.lexer.specs.Tokens.{a_literal, a_bar, a_star, an_open, a_close, a_fault, Placed, placed, tokens_from}
 use Rattle.lexer.specs.Faults.{lexical, leaves_of, passing}

@@ -7,7 +7,7 @@ use Prim.Native.Nat.{ℕ, zero, suc}
 use native.Mathlib.Omega.{arith}
 use lib.ListN.{length}
 use Rattle.rules.specs.Limits.{open_limit}
-use Rattle.rules.specs.declared.Refusal.{Refusal}
+use Rattle.rules.specs.Fault.{Refusal}
 use Rattle.language.specs.Tree.{Tree, cat, alt, star}
 use Rattle.lexer.specs.Tokens.{a_literal, a_bar, a_star, an_open, a_close, a_fault, Placed, placed, tokens_from}
 use Rattle.text.specs.Grammar.{Level, unit, sequence, alternation, Parses, literal, void, group, starred, one, then, only, or}

@@ -8,8 +8,7 @@ use native.Mathlib.Omega.{arith}
 use lib.ListN.{length-drop, length, get_or, drop, replicate}
 use Rattle.rules.specs.declared.TextFault.TheVariants.{OpenUnclosed}
 use Rattle.rules.specs.Limits.{open_limit}
-use Rattle.rules.specs.declared.Refusal.{Refusal}
-use Rattle.rules.specs.Fault.{at}
+use Rattle.rules.specs.Fault.{Refusal, at}
 use Rattle.buffers.proofs.Stores.{wrote_both, wrote_as}
 use Rattle.language.specs.Tree.{Tree, leaf, empty, cat, star}
 use Rattle.sheet.specs.Nodes.{leaf_node, empty_node, cat_node, union_node, star_node}

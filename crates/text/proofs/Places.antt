@@ -11,8 +11,7 @@ use borrow.Author.Tests.{ltb-false}
 use Rattle.rules.specs.Limits.{text_limit, open_limit, leaf_limit, node_limit}
 use Rattle.rules.specs.declared.TextFault.TheVariants.{TextLong, LeavesMany, NodesMany}
 use Rattle.rules.specs.Grounds.{because, first_of}
-use Rattle.rules.specs.declared.Refusal.{Refusal}
-use Rattle.rules.specs.Fault.{at}
+use Rattle.rules.specs.Fault.{Refusal, at}
 use Rattle.rules.proofs.Grounds.{some_eq, Gives, AllGive, because_gives, first_gives}
 use Rattle.language.specs.Tree.{Tree}
 use Rattle.lexer.specs.Tokens.{a_literal, a_bar, a_star, an_open, a_close, a_fault, Placed, placed, tokens_from}

@@ -2,8 +2,7 @@
 use Rattle.std.specs.Prelude.{List, ℕ, ◌<◌, ◌≤◌, length}
 use Rattle.rules.specs.Limits.{open_limit, wiped, filled}
 use Rattle.rules.specs.Numbers.{done, sheet_short}
-use Rattle.rules.specs.declared.Refusal.{Refusal}
-use Rattle.rules.specs.Fault.{text_fault_number}
+use Rattle.rules.specs.Fault.{Refusal, text_fault_number}
 use Rattle.rules.specs.Grounds.{Call}
 use Rattle.language.specs.Tree.{Tree}
 use Rattle.sheet.specs.Make.{sheet_of}

@@ -1,9 +1,9 @@
 -- What the inner functions ensure: they do what the walk does, and store the postorder and the leaves of the tree that it makes.
 -- The public contract cites none of this.
-use Rattle.std.specs.Prelude.{◌≡◌, Bool, true, false, List, [], ◌∷◌, ℕ, ◌+◌, ◌*◌, ◌<◌, ◌≤◌, eqb, length, drop, Result, MatchResult}
+use Rattle.std.specs.Prelude.{◌≡◌, Bool, true, false, List, [], ◌∷◌, ℕ, ◌+◌, ◌*◌, ◌<◌, ◌≤◌, eqb, length, drop, replicate, Result, MatchResult}
 use Rattle.std.proofs.Math.Option.{Option, none, some}
 use Rattle.rules.specs.Limits.{open_limit, leaf_limit, node_limit, nodes_a_byte, leaves_a_byte}
-use Rattle.rules.specs.declared.Refusal.{Refusal}
+use Rattle.rules.specs.Fault.{Refusal}
 use Rattle.buffers.specs.Wrote.{Added}
 use Rattle.language.specs.Tree.{Tree, cat}
 use Rattle.sheet.specs.Make.{postorder, leaves}
@@ -125,6 +125,8 @@ pub record Fresh (p : Draft) : Type 0 where
   pub literals : p.literals.count ≡ 0
   pub node_room : length p.nodes.bytes ≡ node_limit
   pub literal_room : length p.literals.bytes ≡ leaf_limit
+  pub node_bytes : p.nodes.bytes ≡ replicate node_limit 0
+  pub literal_bytes : p.literals.bytes ≡ replicate leaf_limit 0
 
 -- a whole text: the draft holds the walk's tree in postorder, and its leaves
 pub record Whole (t : List ℕ) (p : Draft) : Type 0 where

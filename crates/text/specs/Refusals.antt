@@ -3,8 +3,7 @@ use Rattle.std.proofs.Math.Option.{Option, none, some}
 use Rattle.std.specs.Prelude.{List, [], ◌∷◌, ℕ, ltb, length}
 use Rattle.rules.specs.Limits.{text_limit, node_limit}
 use Rattle.rules.specs.declared.TextFault.TheVariants.{TextLong, NodesMany}
-use Rattle.rules.specs.declared.Refusal.{Refusal}
-use Rattle.rules.specs.Fault.{at}
+use Rattle.rules.specs.Fault.{Refusal, at}
 use Rattle.rules.specs.Grounds.{because, first_of}
 use Rattle.sheet.specs.Make.{postorder}
 use Rattle.lexer.specs.Tokens.{tokens_from}

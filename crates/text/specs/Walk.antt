@@ -3,8 +3,7 @@ use Rattle.std.proofs.Math.Option.{Option, none, some}
 use Rattle.std.specs.Prelude.{List, [], ◌∷◌, ℕ, zero, suc, length}
 use Rattle.language.specs.Tree.{Tree, empty, cat, alt, star}
 use Rattle.rules.specs.Limits.{open_limit}
-use Rattle.rules.specs.declared.Refusal.{Refusal}
-use Rattle.rules.specs.Fault.{at}
+use Rattle.rules.specs.Fault.{Refusal, at}
 use Rattle.rules.specs.declared.TextFault.TheVariants.{OperandMissing, CloseUnopened, OpenUnclosed, OpenDeep}
 use Rattle.lexer.specs.Tokens.{a_literal, a_bar, a_star, an_open, a_close, a_fault, Placed, placed, tokens_from}
 use Rattle.repeats.specs.Copies.{copies}

@@ -64,11 +64,14 @@ impl Draft {
     }
 }
 
-// The stars that follow a unit; the place after them.
+// The stars that follow a unit, mostly none; the place after them.
 fn stars(text: Text, draft: &mut Draft, from: usize) -> usize
     requires { Begun (length text.bytes.now) (state from draft.old) }
     ensures { StarsRead text.entry.bytes.now (state from draft.old) (state result draft.new) }
 {
+    if !text.is(from, b'*') {
+        return from;
+    }
     let mut place = from;
     while text.is(place, b'*') {
         draft.node(Node::Star);
@@ -77,7 +80,8 @@ fn stars(text: Text, draft: &mut Draft, from: usize) -> usize
     place
 }
 
-// A literal with its repeat and its stars; most literals are one plain byte.
+// A literal with its repeat and its stars; most literals are one plain byte, which its callers take without a call.
+#[inline(always)]
 fn literal(text: Text, draft: &mut Draft, place: usize) -> Result<usize, Refusal>
     requires begun { Begun (length text.bytes.now) (state place draft.old) }
     requires unit { unit_at (drop place text.bytes.now) ≡ true }
@@ -88,6 +92,17 @@ fn literal(text: Text, draft: &mut Draft, place: usize) -> Result<usize, Refusal
         draft.leaf(text.bytes[place]);
         return Ok(stars(text, draft, place + 1));
     }
+    written_out(text, draft, place)
+}
+
+// The copies of a literal with its repeat, whether or not it has one, and its stars.
+#[inline(never)]
+fn written_out(text: Text, draft: &mut Draft, place: usize) -> Result<usize, Refusal>
+    requires begun { Begun (length text.bytes.now) (state place draft.old) }
+    requires unit { unit_at (drop place text.bytes.now) ≡ true }
+    requires not_open { starts (drop place text.bytes.now) left_parenthesis ≡ false }
+    ensures { (d : ℕ) → UnitRead text.entry.bytes.now d (state place draft.old) draft.new result }
+{
     let literal = text.literal_at(place)?;
     draft.copies(literal);
     Ok(stars(text, draft, literal.next))
@@ -131,6 +146,7 @@ fn alternation(text: Text, draft: &mut Draft, from: usize, allowed: usize) -> Re
 }
 
 // A sequence: its units, each after the first with the concatenation after it.
+#[inline(always)]
 #[cycle(alternation_sequence_unit)]
 #[tactic(auto, using(crate::proofs::Parts::seq_more))]
 fn sequence(text: Text, draft: &mut Draft, from: usize, allowed: usize) -> Result<usize, Refusal>
@@ -154,6 +170,7 @@ fn sequence(text: Text, draft: &mut Draft, from: usize, allowed: usize) -> Resul
 }
 
 // A unit: the empty word, an alternation in parentheses or a literal, and the stars after it.
+#[inline(always)]
 #[cycle(alternation_sequence_unit)]
 fn unit(text: Text, draft: &mut Draft, place: usize, allowed: usize) -> Result<usize, Refusal>
     requires begun { Begun (length text.bytes.now) (state place draft.old) }

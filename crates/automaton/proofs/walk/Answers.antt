@@ -9,20 +9,10 @@ use Rattle.automaton.proofs.walk.Goals.{in-Leaf, in-Empty, in-Cat, in-Union, in-
 pub loop-node-init : goal.loop-node-init
 loop-node-init c =
     let (t, built, small) = c.requires.one_tree in
-    start c.args.nodes.now c.args.follow.now c.on-waiting.result t built small c.requires.few c.requires.table.1 c.on-waiting.ensures
-
-pub leaf-requires : goal.leaf-requires
-leaf-requires c =
-    let room = leaf-fits c.loop-node.invariant (omega arith) c.in-Leaf.ensures in
-    omega arith
+    start c.args.nodes.now c.args.follow.now c.on-waiting.result t c.of-alone.result c.of-alone.ensures built small c.requires.few c.requires.table.1 c.on-waiting.ensures
 
 pub push-requires : goal.push-requires
 push-requires c =
-    let room = leaf-fits c.loop-node.invariant (omega arith) c.in-Leaf.ensures in
-    omega arith
-
-pub overflow_add-p : goal.overflow_add-p
-overflow_add-p c =
     let room = leaf-fits c.loop-node.invariant (omega arith) c.in-Leaf.ensures in
     omega arith
 
@@ -43,12 +33,12 @@ loop-node-preserved c =
     let i = c.loop-node.invariant in
     let h : c.loop-node.node-index < length c.args.nodes.now = omega arith in
     elim c.match-from.branch [
-      | in-Leaf w ↦ rw (w.p-is, w.follow-is, w.waiting-is, w.push.ensures) (leaf_turn i h w.in-Leaf.ensures w.leaf.result w.leaf.ensures)
-      | in-Empty w ↦ rw (w.p-is, w.follow-is, w.waiting-is, w.push-in-Empty.ensures) (empty_turn i h w.in-Empty.ensures w.empty.result w.empty.ensures)
-      | in-Cat w ↦ rw (w.p-is, w.follow-is, w.waiting-is, w.push-in-Cat.ensures)
+      | in-Leaf w ↦ rw (w.alone-is, w.follow-is, w.waiting-is, w.push.ensures) (leaf_turn i h w.in-Leaf.ensures w.leaf.result w.leaf.ensures w.moved-alone.result w.moved-alone.ensures)
+      | in-Empty w ↦ rw (w.alone-is, w.follow-is, w.waiting-is, w.push-in-Empty.ensures) (empty_turn i h w.in-Empty.ensures w.empty.result w.empty.ensures)
+      | in-Cat w ↦ rw (w.alone-is, w.follow-is, w.waiting-is, w.push-in-Cat.ensures)
           (cat_turn i h w.pop-right.ensures w.pop-left.ensures w.in-Cat.ensures w.link.ensures w.then.ensures)
-      | in-Union w ↦ rw (w.p-is, w.follow-is, w.waiting-is, w.push-in-Union.ensures)
+      | in-Union w ↦ rw (w.alone-is, w.follow-is, w.waiting-is, w.push-in-Union.ensures)
           (alt_turn i h w.pop-right-in-Union.ensures w.pop-left-in-Union.ensures w.in-Union.ensures w.or.ensures)
-      | in-Star w ↦ rw (w.p-is, w.follow-is, w.waiting-is, w.push-in-Star.ensures)
+      | in-Star w ↦ rw (w.alone-is, w.follow-is, w.waiting-is, w.push-in-Star.ensures)
           (star_turn i h w.pop-inner.ensures w.in-Star.ensures w.link-in-Star.ensures w.starred.ensures)
     ]

@@ -6,15 +6,15 @@ use Rattle.reader.specs.Outcome.{refused_with}
 use Rattle.reader.proofs.Ends.{refused_so, next_went}
 use Rattle.reader.proofs.next.Goals as goal
 
-pub returns-in_err-question : goal.returns-in_err-question
-returns-in_err-question c =
+pub returns-in_err-asked : goal.returns-in_err-asked
+returns-in_err-asked c =
     let work = c.args.work.now in
-    refused_so c.from_residual.result (refused_with (wiped c.args.mapping.now) work) c.in_err-question.field-0.0 c.to_search.new.mapping work
-    c.in_err-question.ensures.reason c.from_residual.ensures.1 (rw c.in_err-question.ensures.refused refl)
+    refused_so c.from_residual.result (refused_with (wiped c.args.mapping.now) work) c.in_err-asked.field-0.0 c.to_search.new.mapping work
+    c.in_err-asked.ensures.reason c.from_residual.ensures.1 (rw c.in_err-asked.ensures.refused refl)
 
 pub returns : goal.returns
 returns c =
-    let q = c.in_ok-question.ensures in
+    let q = c.in_ok-asked.ensures in
     let found = c.next_reading-found in
     rw (c.keep.ensures.0, c.keep.ensures.1)
     (answered (sym q.reason)

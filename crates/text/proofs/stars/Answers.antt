@@ -6,7 +6,7 @@ use Rattle.text.proofs.stars.Goals as goal
 
 pub loop-draft-preserved : goal.loop-draft-preserved
 loop-draft-preserved c =
-    let star = sym c.is.ensures ∙ c.loop-draft-test.true in
+    let star = sym c.is-in-loop-draft.ensures ∙ c.loop-draft-test.true in
     record {
       ended = λ d o p. part_star (c.loop-draft.invariant.ended d o p) star c.node.ensures;
       nodes = omega arith;

@@ -1,9 +1,9 @@
 use Prim.Native.Nat.{ℕ, ◌-◌}
 use Rattle.sheet.specs.Make.{postorder}
-use Rattle.buffers.specs.Wrote.{Added}
+use Rattle.buffers.specs.Wrote.{Wrote}
 use Rattle.repeats.proofs.Copies.{joined}
-use Rattle.repeats.proofs.repeat.Given as goal
+use Rattle.repeats.proofs.repeat_in.Given as goal
 
 -- After i copies their nodes are stored; after y of them they are those of the tree.
 abbrev pub invariant-loop-i : goal.invariant-loop-i
-invariant-loop-i g l = (b : ℕ) → Added l.fn.nodes l.nodes (postorder (joined b l.x (l.i - 1)))
+invariant-loop-i l = (b : ℕ) → Wrote l.n l.fn.nodes l.m l.nodes (postorder (joined b l.x (l.i - 1)))
